@@ -1,0 +1,5 @@
+pub mod Sectors
+pub mod Faults
+pub mod Calls
+pub mod Order
+pub mod Runs

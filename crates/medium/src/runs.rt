@@ -1,0 +1,38 @@
+// A whole run of burns on any medium.
+ghost use mathlib.Core.Bool.{cond};
+ghost use mathlib.Core.Path.{_≡_};
+ghost use Rattle.medium.specs.Runs.{Written-once, after-burns, burn-answers};
+ghost use Rattle.std.specs.Of.Vec.{vec-items};
+ghost use Rattle.std.specs.Results.{isOk};
+ghost use Rattle.std.specs.Vec.{made};
+use crate::faults::Fault;
+use crate::interface::IMAGE_BYTES;
+use crate::interface::Medium;
+use crate::interface::Verdict;
+use std::alloc::AllocError;
+use std::alloc::Global;
+
+// A burn that is asked for: the sector, and the bytes that it is to hold.
+#[derive(Clone, Copy)]
+pub struct Burn {
+    pub sector: u32,
+    pub image: [u8; IMAGE_BYTES],
+}
+
+// Asks for the burns in order, and notes what each of them answered.
+// Memory for the answers is taken first, so that want of it leaves the medium as it was.
+pub fn burn_all<M: Medium>(
+    heap: Global,
+    medium: &mut M,
+    burns: &[Burn],
+) -> Result<Vec<Result<Verdict, Fault>>, AllocError>
+    ensures answers { λ r. ⌜ made r (λ v. vec-items v ≡ burn-answers (M·Medium .sectors (now (medium .entry))) (now (burns .entry))) ⌝ }
+    ensures after { λ r. ⌜ M·Medium .sectors (now (medium .exit)) ≡ cond (isOk r) (after-burns (M·Medium .sectors (now (medium .entry))) (now (burns .entry))) (M·Medium .sectors (now (medium .entry))) ⌝ }
+    ensures once { λ r. ⌜ made r (λ v. Written-once (M·Medium .sectors (now (medium .entry))) (now (burns .entry)) (vec-items v) (M·Medium .sectors (now (medium .exit)))) ⌝ }
+{
+    let mut answers = Vec::with_capacity(heap, burns.len())?;
+    for burn in burns {
+        answers.push_reserved(medium.burn(burn.sector, &burn.image));
+    }
+    Ok(answers)
+}
