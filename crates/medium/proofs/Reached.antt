@@ -30,9 +30,19 @@ passed : (b : Bool) (u : Fault) → Ok tt ≡ tested b u → b ≡ true
 passed true u e = refl
 passed false u e = cc
 
+not-passed : (b : Bool) (u f : Fault) → Err f ≡ tested b u → b ≡ false
+not-passed true u f e = cc
+not-passed false u f e = refl
+
+pub out-of-reach : (p i len : ℕ) (f : Fault) → Err f ≡ reaching p i len → reaches p i len ≡ false
+out-of-reach p i len f e = not-passed (reaches p i len) (unreached i len) f e
+
 module _ (p i len : ℕ) (e : Ok tt ≡ reaching p i len) where
+  pub in-reach : reaches p i len ≡ true
+  in-reach = passed (reaches p i len) (unreached i len) e
+
   parts : (eqb len 524 ≡ true) × (ltb i p ≡ true)
-  parts = and-parts (eqb len 524) (ltb i p) (passed (reaches p i len) (unreached i len) e)
+  parts = and-parts (eqb len 524) (ltb i p) in-reach
 
   pub whole-image : len ≡ 524
   whole-image = eqb-true len 524 (parts .0)

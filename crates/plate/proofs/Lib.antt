@@ -1,0 +1,4 @@
+mod Filled
+mod Covering
+mod Sectored
+mod Accessed
