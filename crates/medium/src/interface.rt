@@ -2,7 +2,7 @@
 ghost use mathlib.Core.List.{List};
 ghost use mathlib.Core.Path.{_≡_};
 ghost use lib.ListN.{length};
-ghost use Rattle.medium.specs.Calls.{burning, image-after, reaching, reading, sectors-after};
+ghost use Rattle.medium.specs.Calls.{burning, image-after, reaching, reading, sectors-after, verdict};
 ghost use Rattle.medium.specs.Sectors.{Lawful, Sector};
 use crate::faults::Fault;
 use crate::faults::Refusal;
@@ -26,6 +26,14 @@ pub enum Reading {
 pub enum Verdict {
     Sound,
     Weak,
+}
+
+impl Verdict {
+    pub fn of(weak: bool) -> Verdict
+        ensures { λ r. ⌜ r ≡ verdict weak ⌝ }
+    {
+        if weak { Verdict::Weak } else { Verdict::Sound }
+    }
 }
 
 pub trait Medium {

@@ -22,6 +22,8 @@ use Rattle.plate.specs.declared.plates.Plate.{Plate}
 use Rattle.std.proofs.shelf.Lists.{getD-read}
 use Rattle.std.proofs.shelf.Tests.{eq-eqb, ne-eqb}
 use Rattle.std.specs.Of.Vec.{vec-items}
+use Rattle.std.specs.declared.alloc.Global.{Global}
+use Rattle.std.specs.declared.vec.Vec.{Vec}
 use Rattle.std.specs.declared.result.Result.the-variants.{Ok, Err}
 
 module _ (p : Plate) (i : ℕ) (image : List ℕ) where
@@ -80,10 +82,13 @@ module _ (p : Plate) (i : ℕ) (image : List ℕ) where
         bytes-as false (ne-eqb (mark-at xs i) 0 mark),
       )
 
-      pub burn-blank : mark-at xs i ≡ 0 → (Ok (verdict w) ≡ burning s i (length image)) × (plate-sectors (with-image xs i image) (vec-items (p .flaws)) (p .count) ≡ sectors-after s i image) × (with-image xs i image ≡ bytes-after xs (p .count) i image)
-      burn-blank mark =
+      -- the memory m is what was there with the cell filled
+      pub burn-blank : (m : Vec ℕ Global) → mark-at xs i ≡ 0 → vec-items m ≡ with-image xs i image → (Ok (verdict w) ≡ burning s i (length image)) × (plate-sectors (vec-items m) (vec-items (p .flaws)) (p .count) ≡ sectors-after s i image) × (vec-items m ≡ bytes-after xs (p .count) i image)
+      burn-blank m mark k =
           let at = blank-at xs (vec-items (p .flaws)) (p .count) i inside mark w flawed in (
             burning-as s (p .count) i image row e _ at,
-            plate-burnt xs (vec-items (p .flaws)) (p .count) i image (p .sized) inside (whole-image (p .count) i (length image) e) ∙ sectors-as s (p .count) i image row e _ at,
-            bytes-as true (eq-eqb (mark-at xs i) 0 mark),
+            ap (λ ys. plate-sectors ys (vec-items (p .flaws)) (p .count)) k
+            ∙ plate-burnt xs (vec-items (p .flaws)) (p .count) i image (p .sized) inside (whole-image (p .count) i (length image) e)
+            ∙ sectors-as s (p .count) i image row e _ at,
+            k ∙ bytes-as true (eq-eqb (mark-at xs i) 0 mark),
           )

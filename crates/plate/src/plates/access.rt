@@ -46,10 +46,6 @@ pub impl Medium for Plate as PlateMedium {
             return Err(Fault::in_medium(Refusal::AlreadyBurnt, sector));
         }
         fill_cell(self.memory.as_mut_slice(), sector, image);
-        if any_covers(self.flaws.as_slice(), sector) {
-            Ok(Verdict::Weak)
-        } else {
-            Ok(Verdict::Sound)
-        }
+        Ok(Verdict::of(any_covers(self.flaws.as_slice(), sector)))
     }
 }

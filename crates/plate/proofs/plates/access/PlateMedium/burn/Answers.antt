@@ -1,6 +1,5 @@
 use Prim.Native.Nat.{ℕ, _*_, _<_}
 use mathlib.Core.Path.{_≡_, refl, sym, ap, _∙_}
-use mathlib.Core.Bool.{true, false}
 use mathlib.Core.List.{List}
 use lib.ListN.{length}
 use native.Mathlib.Omega.{arith}
@@ -8,15 +7,14 @@ use Rattle.medium.proofs.Reached.{whole-image, within}
 use Rattle.plate.proofs.Accessed.{burn-blank, burn-burnt, burn-refused, mark-read}
 use Rattle.plate.proofs.Filled.{length-with-image}
 use Rattle.plate.proofs.Sectored.{still-marked}
-use Rattle.plate.specs.Cells.{Marked, with-image}
+use Rattle.plate.specs.Cells.{with-image}
 use Rattle.plate.specs.Flaws.{covered}
-use Rattle.plate.specs.Plates.{plate-sectors}
 use Rattle.std.proofs.shelf.Lists.{refilled-is}
 use Rattle.std.proofs.shelf.Results.{err-from-errBy}
 use Rattle.std.specs.Changed.{refilled}
 use Rattle.std.specs.Of.Vec.{vec-items}
 use Rattle.std.specs.declared.alloc.Global.{Global}
-use Rattle.std.specs.declared.result.Result.the-variants.{Err}
+use Rattle.std.specs.declared.result.Result.the-variants.{Ok, Err}
 use Rattle.std.specs.declared.vec.Vec.{Vec}
 use Rattle.plate.proofs.plates.access.PlateMedium.burn.Needs as need
 
@@ -59,8 +57,8 @@ ghost-self c =
       ),
     )
 
-pub returns-then-any-covers : need.returns-then-any-covers
-returns-then-any-covers c =
+pub returns : need.returns
+returns c =
     let p = c .args .self .now in
     let i = c .args .sector in
     let image = c .args .image .now in
@@ -69,28 +67,6 @@ returns-then-any-covers c =
     let w : length image ≡ 524 = whole-image (p .count) i (length image) e in
     let k = filled (p .memory) (c .fill-cell .last .memory) (c .as-mut-slice .result .now) (p .count) i image (p .sized) h w (c .as-mut-slice .ensures .value) (c .fill-cell .ensures) in
     let mark = mark-read p i image (c .index .result .now) h (c .index .ensures) in
-    let flawed = sym (c .if-any-covers .ensures tt ∙ ap (λ fs. covered fs i) (c .as-slice .ensures .value)) in
-    let r = burn-blank p i image e true flawed (mark ∙ c .if-index-ne-BLANK .left) in
-    record {
-      answer = r .0;
-      after = ap (λ ys. plate-sectors ys (vec-items (p .flaws)) (p .count)) k ∙ r .1;
-      cell = record { bytes = k ∙ r .2; same-flaws = refl; same-count = refl };
-    }
-
-pub returns-else-any-covers : need.returns-else-any-covers
-returns-else-any-covers c =
-    let p = c .args .self .now in
-    let i = c .args .sector in
-    let image = c .args .image .now in
-    let e = c .in-Continue-reach .ensures tt in
-    let h : i < p .count = within (p .count) i (length image) e in
-    let w : length image ≡ 524 = whole-image (p .count) i (length image) e in
-    let k = filled (p .memory) (c .fill-cell .last .memory) (c .as-mut-slice .result .now) (p .count) i image (p .sized) h w (c .as-mut-slice .ensures .value) (c .fill-cell .ensures) in
-    let mark = mark-read p i image (c .index .result .now) h (c .index .ensures) in
-    let flawed = sym (c .if-any-covers .ensures tt ∙ ap (λ fs. covered fs i) (c .as-slice .ensures .value)) in
-    let r = burn-blank p i image e false flawed (mark ∙ c .if-index-ne-BLANK .left) in
-    record {
-      answer = r .0;
-      after = ap (λ ys. plate-sectors ys (vec-items (p .flaws)) (p .count)) k ∙ r .1;
-      cell = record { bytes = k ∙ r .2; same-flaws = refl; same-count = refl };
-    }
+    let flawed = c .any-covers .ensures ∙ ap (λ fs. covered fs i) (c .as-slice .ensures .value) in
+    let r = burn-blank p i image e _ (sym flawed) (refilled (p .memory) (c .fill-cell .last .memory)) (mark ∙ c .if-index-ne-BLANK .left) k in
+    record { answer = ap Ok (c .of .ensures) ∙ r .0; after = r .1; cell = record { bytes = r .2; same-flaws = refl; same-count = refl } }
