@@ -1,0 +1,46 @@
+-- What a bench test finds, on any medium and for any list of burns.
+use Prim.Native.Nat.{ℕ, _<_}
+use mathlib.Core.Bool.{Bool, true, false, cond}
+use mathlib.Core.List.{List, map}
+use mathlib.Core.Path.{_≡_}
+use lib.ListN.{getD, length}
+use Rattle.bench.specs.declared.compare.ReadBack.{ReadBack}
+use Rattle.bench.specs.declared.compare.ReadBack.the-variants.{Blank, Spoiled, Same, Different}
+use Rattle.bench.specs.declared.trial.Account.{Account}
+use Rattle.medium.specs.Calls.{reach-or}
+use Rattle.medium.specs.Runs.{Written-once, after-burns, answer-at, burn-answers}
+use Rattle.medium.specs.Sectors.{Sector, State, blank, burnt, sector-at}
+use Rattle.medium.specs.declared.faults.Fault.{Fault}
+use Rattle.medium.specs.declared.interface.Verdict.the-variants.{Sound, Weak}
+use Rattle.medium.specs.declared.runs.Burn.{Burn}
+use Rattle.std.specs.Of.Vec.{vec-items}
+use Rattle.std.specs.shelf.Text.{sameBytes}
+use Rattle.std.specs.declared.result.Result.{Result}
+use Rattle.std.specs.declared.result.Result.the-variants.{Ok}
+
+-- what a sector shows to one who knows which bytes were asked for
+abbrev pub compared : Bool → State → List ℕ → ReadBack
+compared weak blank wanted = Blank
+compared true (burnt image) wanted = Spoiled
+compared false (burnt image) wanted = cond (sameBytes image wanted) Same Different
+
+-- what is read where a burn was asked for
+abbrev pub reading-back : List Sector → Burn → Result ReadBack Fault
+reading-back s b = reach-or (length s) (b .sector) 524 (Ok (compared (sector-at s (b .sector) .weak) (sector-at s (b .sector) .state) (b .image)))
+
+-- what a place past the last reading reads as; no promise speaks of it
+abbrev pub no-reading : Result ReadBack Fault
+no-reading = Ok Blank
+
+abbrev pub reading-at : List (Result ReadBack Fault) → ℕ → Result ReadBack Fault
+reading-at rs k = getD rs k no-reading
+
+-- burns bs took the sectors s to t, and a is the account of it
+pub record Tested (s : List Sector) (bs : List Burn) (a : Account) (t : List Sector) : Type 0 where
+  pub burns-answered : vec-items (a .burnt) ≡ burn-answers s bs
+  pub burns-done : t ≡ after-burns s bs
+  pub written-once : Written-once s bs (vec-items (a .burnt)) t
+  pub all-read : vec-items (a .read) ≡ map (reading-back t) bs
+  -- what was burnt soundly reads back the same, and what proved weak reads back as spoiled
+  pub sound-is-same : (k : ℕ) → k < length bs → answer-at (vec-items (a .burnt)) k ≡ Ok Sound → reading-at (vec-items (a .read)) k ≡ Ok Same
+  pub weak-is-spoiled : (k : ℕ) → k < length bs → answer-at (vec-items (a .burnt)) k ≡ Ok Weak → reading-at (vec-items (a .read)) k ≡ Ok Spoiled
