@@ -1,7 +1,7 @@
 -- What a bench test finds, on any medium and for any list of burns.
-use Prim.Native.Nat.{ℕ, _<_}
+use Prim.Native.Nat.{ℕ, _+_, _<_}
 use mathlib.Core.Bool.{Bool, true, false, cond}
-use mathlib.Core.List.{List, map}
+use mathlib.Core.List.{List, [], _∷_, map}
 use mathlib.Core.Path.{_≡_}
 use lib.ListN.{getD, length}
 use Rattle.bench.specs.declared.compare.ReadBack.{ReadBack}
@@ -16,7 +16,7 @@ use Rattle.medium.specs.declared.runs.Burn.{Burn}
 use Rattle.std.specs.Of.Vec.{vec-items}
 use Rattle.std.specs.shelf.Text.{sameBytes}
 use Rattle.std.specs.declared.result.Result.{Result}
-use Rattle.std.specs.declared.result.Result.the-variants.{Ok}
+use Rattle.std.specs.declared.result.Result.the-variants.{Ok, Err}
 
 -- what a sector shows to one who knows which bytes were asked for
 abbrev pub compared : Bool → State → List ℕ → ReadBack
@@ -34,6 +34,22 @@ no-reading = Ok Blank
 
 abbrev pub reading-at : List (Result ReadBack Fault) → ℕ → Result ReadBack Fault
 reading-at rs k = getD rs k no-reading
+
+-- how many readings found the bytes that were asked for
+abbrev pub found-same : Result ReadBack Fault → Bool
+found-same (Ok Same) = true
+found-same (Ok Blank) = false
+found-same (Ok Spoiled) = false
+found-same (Ok Different) = false
+found-same (Err f) = false
+
+abbrev pub one-if : Bool → ℕ
+one-if true = 1
+one-if false = 0
+
+abbrev pub alike : List (Result ReadBack Fault) → ℕ
+alike [] = 0
+alike (r ∷ rs) = one-if (found-same r) + alike rs
 
 -- burns bs took the sectors s to t, and a is the account of it
 pub record Tested (s : List Sector) (bs : List Burn) (a : Account) (t : List Sector) : Type 0 where

@@ -2,6 +2,7 @@
 pub mod compare;
 pub mod trial;
 pub use compare::ReadBack;
+pub use compare::count_alike;
 pub use compare::read_back;
 pub use trial::Account;
 pub use trial::bench_test;
