@@ -20,7 +20,11 @@ pub struct Account {
 }
 
 // Memory for the account is taken first, so that want of it leaves the medium as it was.
-pub fn bench_test<M: Medium>(heap: Global, medium: &mut M, burns: &[Burn]) -> Result<Account, AllocError>
+pub fn bench_test<M: Medium>(
+    heap: Global,
+    medium: &mut M,
+    burns: &[Burn],
+) -> Result<Account, AllocError>
     ensures { λ r. ⌜ Cases r (λ a. Tested (M·Medium .sectors (now (medium .entry))) (now (burns .entry)) a (M·Medium .sectors (now (medium .exit)))) (λ _. M·Medium .sectors (now (medium .exit)) ≡ M·Medium .sectors (now (medium .entry))) ⌝ }
 {
     let mut read = Vec::with_capacity(heap, burns.len())?;

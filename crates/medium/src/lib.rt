@@ -1,9 +1,12 @@
 // A write-once medium as an interface: what its sectors mean, what reading and burning them answer,
 // and how a refusal is told. Plates, rolls and everything above them cite these definitions.
+pub mod blank;
 pub mod faults;
 pub mod interface;
 pub mod order;
 pub mod runs;
+
+pub use blank::lowest_burnt;
 pub use faults::Fault;
 pub use faults::Layer;
 pub use faults::Refusal;

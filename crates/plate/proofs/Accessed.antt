@@ -88,7 +88,7 @@ module _ (p : Plate) (i : ℕ) (image : List ℕ) where
           let at = blank-at xs (vec-items (p .flaws)) (p .count) i inside mark w flawed in (
             burning-as s (p .count) i image row e _ at,
             ap (λ ys. plate-sectors ys (vec-items (p .flaws)) (p .count)) k
-            ∙ plate-burnt xs (vec-items (p .flaws)) (p .count) i image (p .sized) inside (whole-image (p .count) i (length image) e)
-            ∙ sectors-as s (p .count) i image row e _ at,
+                ∙ plate-burnt xs (vec-items (p .flaws)) (p .count) i image (p .sized) inside (whole-image (p .count) i (length image) e)
+                ∙ sectors-as s (p .count) i image row e _ at,
             k ∙ bytes-as true (eq-eqb (mark-at xs i) 0 mark),
           )

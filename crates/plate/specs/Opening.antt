@@ -1,9 +1,8 @@
 -- What opening a plate answers, and what closing it hands back.
 use Prim.Native.Nat.{ℕ}
 use mathlib.Core.Path.{_≡_}
-use lib.ListN.{length}
 use Rattle.plate.specs.Access.{sectors-of}
-use Rattle.plate.specs.Plates.{Plate-formed, Plate-means, Plate-refused, Plate-sized}
+use Rattle.plate.specs.Plates.{Plate-means, Plate-openable, Plate-refused}
 use Rattle.plate.specs.declared.flaws.Flaw.{Flaw}
 use Rattle.plate.specs.declared.plates.Plate.{Plate}
 use Rattle.plate.specs.declared.plates.Unopened.{Unopened}
@@ -11,10 +10,9 @@ use Rattle.std.specs.Of.Vec.{vec-items}
 use Rattle.std.specs.declared.alloc.Global.{Global}
 use Rattle.std.specs.declared.vec.Vec.{Vec}
 
--- plate p was opened: size and form are right, and it holds exactly what was given
+-- plate p was opened: it could be, and it holds exactly what was given
 pub record Opened (memory : Vec ℕ Global) (flaws : Vec Flaw Global) (count : ℕ) (p : Plate) : Type 0 where
-  pub sized : Plate-sized (length (vec-items memory)) count
-  pub formed : Plate-formed (vec-items memory) (vec-items flaws) count
+  pub openable : Plate-openable (vec-items memory) (vec-items flaws) count
   pub holds-memory : p .memory ≡ memory
   pub holds-flaws : p .flaws ≡ flaws
   pub holds-count : p .count ≡ count
@@ -30,5 +28,4 @@ pub record Refused (memory : Vec ℕ Global) (flaws : Vec Flaw Global) (count : 
 pub record Closed (p : Plate) (memory : Vec ℕ Global) (flaws : Vec Flaw Global) : Type 0 where
   pub back-memory : memory ≡ p .memory
   pub back-flaws : flaws ≡ p .flaws
-  pub sized : Plate-sized (length (vec-items memory)) (p .count)
-  pub formed : Plate-formed (vec-items memory) (vec-items flaws) (p .count)
+  pub openable : Plate-openable (vec-items memory) (vec-items flaws) (p .count)

@@ -39,7 +39,11 @@ Plate-sized len p = (1 ≤ p) × (p ≤ 640064) × (len ≡ 525 * p)
 abbrev pub Plate-formed : List ℕ → List Flaw → ℕ → Type 0
 Plate-formed bytes flaws p = Marked bytes p × Flaws-formed flaws p
 
--- why a plate is not opened: its size first, and then its form
+-- what a plate of p sectors can be opened with
+abbrev pub Plate-openable : List ℕ → List Flaw → ℕ → Type 0
+Plate-openable bytes flaws p = Plate-sized (length bytes) p × Plate-formed bytes flaws p
+
+-- why a plate is not opened: its size is tried first, and then its form
 abbrev pub Plate-refused : List ℕ → List Flaw → ℕ → Fault → Type 0
 Plate-refused bytes flaws p f =
     ((f ≡ medium-fault WrongMemory 0) × (Plate-sized (length bytes) p → ⊥))

@@ -31,7 +31,7 @@ impl Flaw {
     fn covers(&self, sector: u32) -> bool
         ensures { λ r. ⌜ r ≡ covers (now (self .entry)) sector ⌝ }
     {
-        self.offset <= sector && sector - self.offset < self.length
+        sector >= self.offset && sector - self.offset < self.length
     }
 
     // Whether it has a sector, and none past the last of `count`.

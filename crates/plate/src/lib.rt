@@ -3,6 +3,7 @@
 pub mod cells;
 pub mod flaws;
 pub mod plates;
+
 pub use cells::CELL_BYTES;
 pub use flaws::Flaw;
 pub use flaws::FlawKeyed;

@@ -1,23 +1,19 @@
-// The station's program. As yet it is the bench test of a cartridge on a plate:
-// the runs of a ranging evening are burnt, read back and compared, and what is refused is shown.
+// The station's program. As yet it is the bench test of a cartridge, on a plate:
+// the three runs of a ranging evening are burnt, read back and compared, and what must be refused is tried.
 use bench::bench_test;
-use evening::second_tries;
-use evening::shots;
-use medium::Burn;
 use plate::CELL_BYTES;
 use plate::Flaw;
 use plate::Plate;
-use std::alloc::AllocError;
-use std::alloc::Global;
+use plate::PlateMedium;
 use std::error::AnyError;
 
 mod evening;
 mod report;
 
-// Enough for the evening, with a few sectors to spare.
+// Enough for the evening, and eight to spare.
 const SECTORS: u32 = 48;
 
-// Where the plate is weak: in the pass, between its shots, and in the closing calibration.
+// Weak sectors in the pass, and one in the closing calibration.
 const FLAWS: [Flaw; 3] = [
     Flaw {
         offset: 9,
@@ -34,33 +30,31 @@ const FLAWS: [Flaw; 3] = [
 ];
 
 fn main(rt: LibcRuntime) -> Result<(), AnyError> {
-    rt.report(run(&rt))
+    rt.report(bench(&rt))
 }
 
-fn run(rt: &LibcRuntime) -> Result<(), AnyError> {
+fn bench(rt: &LibcRuntime) -> Result<(), AnyError> {
     let heap = rt.alloc();
-    let plan = plan(heap)?;
+    let plan = evening::plan(heap, SECTORS)?;
     let memory = vec![in heap; 0u8; CELL_BYTES * SECTORS as usize]?;
-    let flaws = FLAWS.to_vec(heap)?;
-    report::print_medium(rt, "plate", SECTORS, memory.len(), flaws.as_slice())?;
-    let mut plate = match Plate::open(memory, flaws, SECTORS) {
-        Ok(plate) => plate,
-        Err(unopened) => {
-            report::print_fault(rt, "opening the plate", unopened.fault)?;
-            return Err("the plate was not opened".into());
-        }
-    };
+    report::print_plate(rt, SECTORS, memory.len(), &FLAWS)?;
+    let mut plate = open(rt, memory, FLAWS.to_vec(heap)?)?;
+    report::print_lowest_burnt(rt, &plate)?;
     let account = bench_test(heap, &mut plate, plan.as_slice())?;
     report::print_account(rt, plan.as_slice(), &account)?;
-    let (memory, _) = plate.close();
-    let bytes = memory.len();
-    println!(rt, "Closing\n  the plate hands its {bytes} bytes back")?;
+    let (memory, flaws) = plate.close();
+    println!(rt, "Closed and opened again")?;
+    report::print_lowest_burnt(rt, &open(rt, memory, flaws)?)?;
     Ok(())
 }
 
-// Everything that is asked of the medium, in order: the three runs, and then what it must refuse.
-fn plan(heap: Global) -> Result<Vec<Burn>, AllocError> {
-    let mut plan = shots(heap)?;
-    second_tries(&mut plan, SECTORS)?;
-    Ok(plan)
+fn open(rt: &LibcRuntime, memory: Vec<u8>, flaws: Vec<Flaw>) -> Result<Plate, AnyError> {
+    match Plate::open(memory, flaws, SECTORS) {
+        Ok(plate) => Ok(plate),
+        Err(unopened) => {
+            print!(rt, "The plate cannot be opened: ")?;
+            report::print_fault(rt, unopened.fault)?;
+            Err("the plate cannot be opened".into())
+        }
+    }
 }

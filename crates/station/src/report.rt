@@ -1,47 +1,163 @@
-// The account of a bench test, for a person.
+// The account of a bench test, for a person to read.
 use crate::evening::RUNS;
 use crate::evening::Run;
 use bench::Account;
 use bench::ReadBack;
+use bench::count_alike;
 use medium::Burn;
 use medium::Fault;
 use medium::IMAGE_BYTES;
+use medium::Medium;
 use medium::Refusal;
 use medium::Verdict;
+use medium::lowest_burnt;
 use plate::Flaw;
+use std::error::AnyError;
+use std::fmt;
 use std::io;
 
-pub fn print_medium(rt: &LibcRuntime, kind: &str, sectors: u32, bytes: usize, flaws: &[Flaw]) -> io::Result<()> {
-    println!(rt, "Bench test of a {kind} of {sectors} sectors in {bytes} bytes")?;
+// Sector numbers beside each other, or the word `none`.
+#[derive(Drop)]
+struct Numbers<'a>(&'a [u32]);
+
+impl fmt::Display for Numbers<'_> as NumbersDisplay {
+    fn fmt<W: fmt::Write>(&self, f: &mut fmt::Formatter<W>) -> fmt::Result {
+        if self.0.is_empty() {
+            return write!(f, "none");
+        }
+        for (i, number) in self.0.iter().enumerate() {
+            if i > 0 {
+                write!(f, " ")?;
+            }
+            write!(f, "{number}")?;
+        }
+        Ok(())
+    }
+}
+
+pub(crate) fn print_plate(
+    rt: &LibcRuntime,
+    sectors: u32,
+    bytes: usize,
+    flaws: &[Flaw],
+) -> io::Result<()> {
+    println!(
+        rt,
+        "Bench test of a plate: {sectors} sectors in {bytes} bytes"
+    )?;
     for flaw in flaws {
-        let Flaw { offset, length } = *flaw;
-        println!(rt, "  its flaw list has {length} weak from sector {offset}")?;
+        let offset = flaw.offset;
+        let length = flaw.length;
+        println!(
+            rt,
+            "  its flaw list makes {length} weak from sector {offset} on"
+        )?;
     }
     Ok(())
 }
 
-pub fn print_account(rt: &LibcRuntime, plan: &[Burn], account: &Account) -> io::Result<()> {
-    println!(rt, "Burning")?;
+pub(crate) fn print_account(
+    rt: &LibcRuntime,
+    plan: &[Burn],
+    account: &Account,
+) -> Result<(), AnyError> {
+    println!(rt, "Burnt")?;
     for run in &RUNS {
         print_run(rt, run, plan, account)?;
     }
     println!(rt, "Refused")?;
+    print_refusals(rt, plan, account)?;
+    println!(rt, "Read back")?;
+    print_readings(rt, plan, account)
+}
+
+// How many sectors of the run proved sound, and which proved weak.
+fn print_run(
+    rt: &LibcRuntime,
+    run: &Run,
+    plan: &[Burn],
+    account: &Account,
+) -> Result<(), AnyError> {
+    let mut sound = 0u32;
+    let mut weak = Vec::new(rt.alloc());
     for (burn, answer) in plan.iter().zip(account.burnt.iter()) {
-        if let Err(fault) = answer {
-            print_fault(rt, "burning sector", *fault)?;
+        match answer {
+            Ok(Verdict::Sound) if run.holds(burn.sector) => sound = sound.saturating_add(1),
+            Ok(Verdict::Weak) if run.holds(burn.sector) => weak.push(burn.sector)?,
+            _ => {}
         }
     }
-    println!(rt, "Reading back")?;
+    let name = run.name;
+    let first = run.first_sector;
+    let last = run.last_sector();
+    let weak = Numbers(weak.as_slice());
+    println!(
+        rt,
+        "  {name}, sectors {first} to {last}: {sound} sound, weak: {weak}"
+    )?;
     Ok(())
 }
 
-fn print_run(rt: &LibcRuntime, run: &Run, plan: &[Burn], account: &Account) -> io::Result<()> {
+fn print_refusals(rt: &LibcRuntime, plan: &[Burn], account: &Account) -> Result<(), AnyError> {
+    for (burn, answer) in plan.iter().zip(account.burnt.iter()) {
+        if let Err(fault) = answer {
+            let sector = burn.sector;
+            print!(rt, "  burning sector {sector}: ")?;
+            print_fault(rt, *fault)?;
+        }
+    }
     Ok(())
 }
 
-pub fn print_fault(rt: &LibcRuntime, what: &str, fault: Fault) -> io::Result<()> {
+pub(crate) fn print_fault(rt: &LibcRuntime, fault: Fault) -> io::Result<()> {
     let number = fault.refusal.number();
+    let meaning = meaning(fault.refusal);
     let layer = fault.layer.name();
     let place = fault.place;
-    println!(rt, "  {what}: refusal {number} by the {layer} at {place}")
+    println!(rt, "refusal {number} of the {layer} at {place}, {meaning}")
+}
+
+// What the bench test can be refused by; the others come from layers that it does not reach.
+fn meaning(refusal: Refusal) -> &'static str {
+    match refusal {
+        Refusal::WrongMemory => "the memory is not as long as the plate",
+        Refusal::BrokenForm => "the memory or the flaw list has not the form of a plate's",
+        Refusal::WrongLength => "the image has not 524 bytes",
+        Refusal::NoSuchSector => "there is no such sector",
+        Refusal::AlreadyBurnt => "the sector is burnt",
+        _ => "not a matter of the medium",
+    }
+}
+
+fn print_readings(rt: &LibcRuntime, plan: &[Burn], account: &Account) -> Result<(), AnyError> {
+    let mut spoiled = Vec::new(rt.alloc());
+    let mut changed = Vec::new(rt.alloc());
+    for (burn, (answer, reading)) in plan.iter()
+        .zip(account.burnt.iter().zip(account.read.iter())) {
+        match (answer, reading) {
+            (Ok(_), Ok(ReadBack::Same)) => {}
+            (Ok(_), Ok(ReadBack::Spoiled)) => spoiled.push(burn.sector)?,
+            (Ok(_), _) => changed.push(burn.sector)?,
+            (Err(_), _) => {}
+        }
+    }
+    let same = count_alike(account.read.as_slice());
+    let bytes = same.saturating_mul(IMAGE_BYTES);
+    println!(
+        rt,
+        "  {same} sectors hold what was burnt: {bytes} bytes compared equal"
+    )?;
+    let spoiled = Numbers(spoiled.as_slice());
+    println!(rt, "  spoiled: {spoiled}")?;
+    let changed = Numbers(changed.as_slice());
+    println!(rt, "  changed: {changed}")?;
+    Ok(())
+}
+
+pub(crate) fn print_lowest_burnt<M: Medium>(rt: &LibcRuntime, medium: &M) -> io::Result<()> {
+    match lowest_burnt(medium) {
+        Ok(None) => println!(rt, "  every sector is blank"),
+        Ok(Some(sector)) => println!(rt, "  the lowest burnt sector is {sector}"),
+        Err(fault) => print_fault(rt, fault),
+    }
 }

@@ -1,9 +1,8 @@
 // Opening a plate on the caller's bytes, and closing it again.
 ghost use Rattle.plate.specs.Opening.{Closed, Opened, Refused};
-ghost use Rattle.plate.specs.Plates.{Plate-formed, Plate-refused, Plate-sized};
+ghost use Rattle.plate.specs.Plates.{Plate-openable, Plate-refused, Plate-sized};
 ghost use Rattle.std.specs.Orderings.{Decides};
 ghost use Rattle.std.specs.Results.{Cases};
-ghost use lib.ListN.{length};
 use crate::cells::CELL_BYTES;
 use crate::cells::are_marked;
 use crate::flaws::Flaw;
@@ -55,7 +54,7 @@ impl Plate {
 
 // Tries the size first, and then the form: one pass over the marks, and a few over the flaws.
 fn check(memory: &[u8], flaws: &[Flaw], count: u32) -> Result<(), Fault>
-    ensures { λ r. ⌜ Cases r (λ _. Plate-sized (length (now (memory .entry))) count × Plate-formed (now (memory .entry)) (now (flaws .entry)) count) (Plate-refused (now (memory .entry)) (now (flaws .entry)) count) ⌝ }
+    ensures { λ r. ⌜ Cases r (λ _. Plate-openable (now (memory .entry)) (now (flaws .entry)) count) (Plate-refused (now (memory .entry)) (now (flaws .entry)) count) ⌝ }
 {
     if !Plate::is_sized(memory.len(), count) {
         return Err(Fault::in_medium(Refusal::WrongMemory, 0));

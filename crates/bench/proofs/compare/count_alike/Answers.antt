@@ -21,8 +21,8 @@ loop-reading-again c =
     let xs = c .args .readings .now in
     let i = c .loop-reading .reading-index in
     elim (c .if-is-same .came) [
-      then-is-same w ↦ (omega (arith, w .count-is, step xs i (c .loop-reading .count) true (c .loop-reading-test .taken) (sym (w .if-is-same .taken) ∙ c .is-same .ensures) (c .loop-reading .inv .0)), omega (arith, w .count-is))
-    | else-is-same w ↦ (omega (arith, w .count-is, step xs i (c .loop-reading .count) false (c .loop-reading-test .taken) (sym (w .if-is-same .left) ∙ c .is-same .ensures) (c .loop-reading .inv .0)), omega (arith, w .count-is))
+      | then-is-same w ↦ (omega (arith, w .count-is, step xs i (c .loop-reading .count) true (c .loop-reading-test .taken) (sym (w .if-is-same .taken) ∙ c .is-same .ensures) (c .loop-reading .inv .0)), omega (arith, w .count-is))
+      | else-is-same w ↦ (omega (arith, w .count-is, step xs i (c .loop-reading .count) false (c .loop-reading-test .taken) (sym (w .if-is-same .left) ∙ c .is-same .ensures) (c .loop-reading .inv .0)), omega (arith, w .count-is))
     ]
 
 pub returns : need.returns

@@ -1,18 +1,14 @@
 use Prim.Native.Nat.{ℕ}
 use mathlib.Core.List.{List}
 use mathlib.Core.Path.{_≡_, refl}
-use lib.ListN.{length}
 use Rattle.plate.proofs.Sectored.{plate-means}
-use Rattle.plate.specs.Plates.{Plate-formed, Plate-sized}
+use Rattle.plate.specs.Plates.{Plate-openable}
 use Rattle.plate.specs.declared.flaws.Flaw.{Flaw}
 use Rattle.std.specs.Of.Vec.{vec-items}
 use Rattle.plate.proofs.plates.Plate.open.Needs as need
 
-abbrev Fine : List ℕ → List Flaw → ℕ → Type 0
-Fine xs fs p = Plate-sized (length xs) p × Plate-formed xs fs p
-
 -- what the check found of the slices holds of what they were lent from
-lent : (xs ys : List ℕ) (fs gs : List Flaw) (p : ℕ) → xs ≡ ys → fs ≡ gs → Fine xs fs p → Fine ys gs p
+lent : (xs ys : List ℕ) (fs gs : List Flaw) (p : ℕ) → xs ≡ ys → fs ≡ gs → Plate-openable xs fs p → Plate-openable ys gs p
 lent xs ys fs gs p e f h = rw (← e, ← f) h
 
 pub ghost-result : need.ghost-result
@@ -26,8 +22,7 @@ pub returns-in-Ok : need.returns-in-Ok
 returns-in-Ok c =
     let h = lent _ _ _ _ (c .args .count) (c .as-slice .ensures .value) (c .as-slice-2 .ensures .value) (c .in-Ok .ensures tt) in
     record {
-      sized = h .0;
-      formed = h .1;
+      openable = h;
       holds-memory = refl;
       holds-flaws = refl;
       holds-count = refl;

@@ -47,9 +47,12 @@ ghost-self c =
     let h : i < p .count = within (p .count) i (length image) e in
     let w : length image ≡ 524 = whole-image (p .count) i (length image) e in
     let k = filled (p .memory) (c .fill-cell .last .memory) (c .as-mut-slice .result .now) (p .count) i image (p .sized) h w (c .as-mut-slice .ensures .value) (c .fill-cell .ensures) in (
-      p .some, (
-        p .few, (
-          ap length k ∙ length-with-image xs i image (omega (arith, p .sized)) w ∙ p .sized, (
+      p .some,
+      (
+        p .few,
+        (
+          ap length k ∙ length-with-image xs i image (omega (arith, p .sized)) w ∙ p .sized,
+          (
             rw k (still-marked xs (vec-items (p .flaws)) (p .count) i image (p .sized) h w (p .marked)),
             (p .short, (p .sorted, (p .inside, (p .apart, tt)))),
           ),

@@ -40,6 +40,6 @@ returns c =
     let flawed = sym (c .if-any-covers .ensures tt ∙ ap (λ fs. covered fs i) (c .as-slice .ensures .value)) in
     let r = read-burnt (c .args .self .now) i (c .args .image .now) e false flawed (λ z. c .if-index-eq-BLANK .left (sym mark ∙ z)) in
     let copied = c .copy-from-slice .ensures .after
-        ∙ ap (λ n. take n (drop (525 * i + 1) (c .deref .result .now))) part
-        ∙ ap (λ t. take 524 (drop (525 * i + 1) t)) (c .deref .ensures .value) in
+    ∙ ap (λ n. take n (drop (525 * i + 1) (c .deref .result .now))) part
+    ∙ ap (λ t. take 524 (drop (525 * i + 1) t)) (c .deref .ensures .value) in
     record { answer = r .0; image = copied ∙ r .1 }

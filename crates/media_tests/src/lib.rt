@@ -1,0 +1,3 @@
+// The edges of the media's rules, by example. The contracts say the same of every input.
+#[cfg(test)]
+mod plates;
