@@ -1,6 +1,8 @@
 // A whole run of burns on any medium.
 ghost use mathlib.Core.Bool.{cond};
 ghost use mathlib.Core.Path.{_≡_};
+ghost use lib.ListN.{length};
+ghost use Rattle.medium.specs.Calls.{burning, sectors-after};
 ghost use Rattle.medium.specs.Runs.{Written-once, after-burns, burn-answers};
 ghost use Rattle.std.specs.Of.Vec.{vec-items};
 ghost use Rattle.std.specs.Results.{isOk};
@@ -32,7 +34,14 @@ pub fn burn_all<M: Medium>(
 {
     let mut answers = Vec::with_capacity(heap, burns.len())?;
     for burn in burns {
-        answers.push_reserved(medium.burn(burn.sector, &burn.image));
+        answers.push_reserved(ask(medium, burn));
     }
     Ok(answers)
+}
+
+fn ask<M: Medium>(medium: &mut M, burn: &Burn) -> Result<Verdict, Fault>
+    ensures answer { λ r. ⌜ r ≡ burning (M·Medium .sectors (now (medium .entry))) (now (burn .entry) .sector) (length (now (burn .entry) .image)) ⌝ }
+    ensures after { λ _. ⌜ M·Medium .sectors (now (medium .exit)) ≡ sectors-after (M·Medium .sectors (now (medium .entry))) (now (burn .entry) .sector) (now (burn .entry) .image) ⌝ }
+{
+    medium.burn(burn.sector, &burn.image)
 }

@@ -4,7 +4,7 @@ use mathlib.Core.Path.{_≡_, refl, sym, ap, _∙_}
 use mathlib.Core.Bool.{Bool, true, false, cond, _&&_}
 use mathlib.Core.List.{List}
 use lib.Dec.{eqb}
-use lib.ListN.{getD, length}
+use lib.ListN.{length}
 use native.Mathlib.Omega.{arith}
 use Rattle.medium.proofs.Reached.{burning-as, burning-refused, image-as, image-refused, in-reach, out-of-reach, reading-as, reading-refused, sectors-as, sectors-refused, whole-image, within}
 use Rattle.medium.specs.Calls.{burning, filled, image-after, reaches, reaching, reading, sectors-after, shown, verdict}
@@ -19,7 +19,6 @@ use Rattle.plate.specs.Cells.{bytes-after, image-at, mark-at, with-image}
 use Rattle.plate.specs.Flaws.{covered}
 use Rattle.plate.specs.Plates.{plate-sectors}
 use Rattle.plate.specs.declared.plates.Plate.{Plate}
-use Rattle.std.proofs.shelf.Lists.{getD-read}
 use Rattle.std.proofs.shelf.Tests.{eq-eqb, ne-eqb}
 use Rattle.std.specs.Of.Vec.{vec-items}
 use Rattle.std.specs.declared.alloc.Global.{Global}
@@ -35,10 +34,6 @@ module _ (p : Plate) (i : ℕ) (image : List ℕ) where
 
   row : length s ≡ p .count
   row = length-plate xs (vec-items (p .flaws)) (p .count)
-
-  -- the mark as the code reads it
-  pub mark-read : (x : ℕ) → i < p .count → x ≡ getD xs (525 * i) x → mark-at xs i ≡ x
-  mark-read x h e = sym (getD-read xs (525 * i) x (omega (arith, p .sized)) e 0)
 
   module _ (f : Fault) (e : Err f ≡ reaching (p .count) i (length image)) where
     pub read-refused : (Err f ≡ reading s i (length image)) × (image ≡ image-after s i image)

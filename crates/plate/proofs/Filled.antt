@@ -10,18 +10,8 @@ use native.Mathlib.Omega.{arith}
 use Rattle.std.proofs.shelf.Lists.{same-lists, length-take, length-drop, length-append, length-take-le, getD-take, getD-drop, getD-append-left, getD-append-right, getD-at, set-at, take-more, append-assoc}
 use Rattle.std.proofs.shelf.Tests.{cases-lt}
 use Rattle.plate.specs.Cells.{image-at, mark-at, state-at, with-image}
+use Rattle.medium.proofs.Parts.{part-same}
 use Rattle.medium.specs.Sectors.{blank, burnt}
-
--- two lists that agree on a stretch have the same part there
-pub part-same : (xs ys : List ℕ) (n a : ℕ) → length xs ≡ length ys → ((j d : ℕ) → a ≤ j → j < a + n → getD xs j d ≡ getD ys j d) → take n (drop a xs) ≡ take n (drop a ys)
-part-same xs ys n a e h =
-    same-lists
-    (take n (drop a xs))
-    (take n (drop a ys))
-    (simp (length-take, length-drop) (omega arith))
-    (λ k d l.
-    let m : k < n = omega (arith, length-take n (drop a xs), length-drop a xs) in
-    rw (getD-take n (drop a xs), getD-take n (drop a ys), getD-drop a xs, getD-drop a ys) (h (a + k) d (omega arith) (omega arith)))
 
 module _ (xs : List ℕ) (i : ℕ) (image : List ℕ) (fits : 525 * i + 525 ≤ length xs) (whole : length image ≡ 524) where
   pub length-with-image : length (with-image xs i image) ≡ length xs

@@ -2,7 +2,7 @@
 ghost use mathlib.Core.Path.{_≡_};
 ghost use Prim.Native.Nat.{_+_, _*_, _≤_};
 ghost use lib.ListN.{length};
-ghost use Rattle.plate.specs.Cells.{Marked, with-image};
+ghost use Rattle.plate.specs.Cells.{Marked, image-at, mark-at, with-image};
 ghost use Rattle.std.specs.Orderings.{Decides};
 use medium::IMAGE_BYTES;
 
@@ -12,13 +12,29 @@ pub(crate) const BLANK: u8 = 0;
 
 pub(crate) const BURNT: u8 = 1;
 
+pub(crate) fn mark_of(memory: &[u8], sector: u32) -> u8
+    requires { ⌜ 525 * sector + 525 ≤ length (now memory) ⌝ }
+    ensures { λ r. ⌜ r ≡ mark-at (now (memory .entry)) sector ⌝ }
+{
+    memory[CELL_BYTES * sector as usize]
+}
+
+pub(crate) fn image_of(memory: &[u8], sector: u32) -> &[u8]
+    requires { ⌜ 525 * sector + 525 ≤ length (now memory) ⌝ }
+    ensures value { λ r. ⌜ now r ≡ image-at (now (memory .entry)) sector ⌝ }
+    ensures long { λ r. ⌜ length (now r) ≡ 524 ⌝ }
+{
+    let at = CELL_BYTES * sector as usize;
+    &memory[at + 1..at + CELL_BYTES]
+}
+
 // Whether each mark says blank or burnt.
 pub(crate) fn are_marked(memory: &[u8], count: u32) -> bool
     requires { ⌜ 525 * count ≤ length (now memory) ⌝ }
     ensures { λ r. ⌜ Decides r (Marked (now (memory .entry)) count) ⌝ }
 {
     for sector in 0..count {
-        if memory[CELL_BYTES * sector as usize] > BURNT {
+        if mark_of(memory, sector) > BURNT {
             return false;
         }
     }

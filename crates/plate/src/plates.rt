@@ -6,6 +6,7 @@ ghost use lib.ListN.{length};
 ghost use Rattle.medium.specs.Order.{Rising};
 ghost use Rattle.plate.specs.Cells.{Marked};
 ghost use Rattle.plate.specs.Flaws.{All-inside, Apart};
+ghost use Rattle.plate.specs.Plates.{plate-sectors};
 ghost use Rattle.std.specs.Of.Vec.{vec-items};
 use crate::flaws::Flaw;
 use medium::Fault;
@@ -26,6 +27,7 @@ pub struct Plate {
     ghost sorted: { Rising (map (λ f. f .offset) (vec-items flaws)) },
     ghost inside: { All-inside (vec-items flaws) count },
     ghost apart: { Apart (vec-items flaws) },
+    ghost row: { length (plate-sectors (vec-items memory) (vec-items flaws) count) ≡ count },
 }
 
 // Why a plate was not opened, and what was given to open it.

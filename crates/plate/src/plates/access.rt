@@ -4,8 +4,9 @@ ghost use lib.ListN.{length};
 ghost use Rattle.medium.specs.Calls.{burning, sectors-after};
 ghost use Rattle.plate.specs.Access.{Burnt-in-cell, sectors-of};
 use crate::cells::BLANK;
-use crate::cells::CELL_BYTES;
 use crate::cells::fill_cell;
+use crate::cells::image_of;
+use crate::cells::mark_of;
 use crate::flaws::any_covers;
 use crate::plates::Plate;
 use medium::Fault;
@@ -24,14 +25,13 @@ pub impl Medium for Plate as PlateMedium {
 
     fn read(&self, sector: u32, image: &mut [u8]) -> Result<Reading, Fault> {
         reach(self.count, sector, image.len())?;
-        let at = CELL_BYTES * sector as usize;
-        if self.memory[at] == BLANK {
+        if mark_of(self.memory.as_slice(), sector) == BLANK {
             return Ok(Reading::Blank);
         }
         if any_covers(self.flaws.as_slice(), sector) {
             return Ok(Reading::Spoiled);
         }
-        image.copy_from_slice(&self.memory[at + 1..at + CELL_BYTES]);
+        image.copy_from_slice(image_of(self.memory.as_slice(), sector));
         Ok(Reading::Sound)
     }
 
@@ -42,7 +42,7 @@ pub impl Medium for Plate as PlateMedium {
         ensures cell { λ _. ⌜ Burnt-in-cell (now (self .entry)) sector (now (image .entry)) (now (self .exit)) ⌝ }
     {
         reach(self.count, sector, image.len())?;
-        if self.memory[CELL_BYTES * sector as usize] != BLANK {
+        if mark_of(self.memory.as_slice(), sector) != BLANK {
             return Err(Fault::in_medium(Refusal::AlreadyBurnt, sector));
         }
         fill_cell(self.memory.as_mut_slice(), sector, image);

@@ -32,11 +32,11 @@ module _ (s t : List Sector) (bs : List Burn) (i : ℕ) (after : t ≡ sectors-a
 pub loop-burn-again : need.loop-burn-again
 loop-burn-again g c =
     let s = g .M·Medium .sectors (c .loop-burn .medium) in
-    let t = g .M·Medium .sectors (c .burn .last .self) in
+    let t = g .M·Medium .sectors (c .ask .last .medium) in
     let bs = c .args .burns .now in
     let i = c .loop-burn .burn-index in (
-      left-more s t bs i (c .burn .ensures .after) (c .loop-burn-test .taken) _ (c .loop-burn .inv .0),
-      answers-more s t bs i (c .burn .ensures .after) (c .loop-burn-test .taken) _ _ _ _ (c .burn .ensures .answer) (c .push-reserved .ensures .items) (c .loop-burn .inv .1),
+      left-more s t bs i (c .ask .ensures .after) (c .loop-burn-test .taken) _ (c .loop-burn .inv .0),
+      answers-more s t bs i (c .ask .ensures .after) (c .loop-burn-test .taken) _ _ _ _ (c .ask .ensures .answer) (c .push-reserved .ensures .items) (c .loop-burn .inv .1),
       omega arith,
       omega arith,
     )

@@ -4,10 +4,10 @@ use mathlib.Core.List.{List}
 use lib.ListN.{length}
 use native.Mathlib.Omega.{arith}
 use Rattle.medium.proofs.Reached.{whole-image, within}
-use Rattle.plate.proofs.Accessed.{burn-blank, burn-burnt, burn-refused, mark-read}
+use Rattle.plate.proofs.Accessed.{burn-blank, burn-burnt, burn-refused}
 use Rattle.plate.proofs.Filled.{length-with-image}
-use Rattle.plate.proofs.Sectored.{still-marked}
-use Rattle.plate.specs.Cells.{with-image}
+use Rattle.plate.proofs.Sectored.{length-plate, still-marked}
+use Rattle.plate.specs.Cells.{mark-at, with-image}
 use Rattle.plate.specs.Flaws.{covered}
 use Rattle.std.proofs.shelf.Lists.{refilled-is}
 use Rattle.std.proofs.shelf.Results.{err-from-errBy}
@@ -24,11 +24,11 @@ returns-in-Break-reach c =
     let r = burn-refused (c .args .self .now) (c .args .sector) (c .args .image .now) (c .in-Break-reach .field-0 .0) (c .in-Break-reach .ensures tt) in
     record { answer = out .1 ∙ ap Err (out .2) ∙ r .0; after = r .1; cell = record { bytes = r .2; same-flaws = refl; same-count = refl } }
 
-pub returns-then-index-ne-BLANK : need.returns-then-index-ne-BLANK
-returns-then-index-ne-BLANK c =
+pub returns-then-mark-of-ne-BLANK : need.returns-then-mark-of-ne-BLANK
+returns-then-mark-of-ne-BLANK c =
     let e = c .in-Continue-reach .ensures tt in
-    let mark = mark-read (c .args .self .now) (c .args .sector) (c .args .image .now) (c .index .result .now) (within _ _ _ e) (c .index .ensures) in
-    let r = burn-burnt (c .args .self .now) (c .args .sector) (c .args .image .now) e _ refl (λ z. c .if-index-ne-BLANK .taken (sym mark ∙ z)) in
+    let mark = ap (λ ys. mark-at ys (c .args .sector)) (sym (c .as-slice .ensures .value)) ∙ sym (c .mark-of .ensures) in
+    let r = burn-burnt (c .args .self .now) (c .args .sector) (c .args .image .now) e _ refl (λ z. c .if-mark-of-ne-BLANK .taken (sym mark ∙ z)) in
     record { answer = ap Err (c .in-medium .ensures) ∙ r .0; after = r .1; cell = record { bytes = r .2; same-flaws = refl; same-count = refl } }
 
 -- the memory once the cell is filled
@@ -54,7 +54,7 @@ ghost-self c =
           ap length k ∙ length-with-image xs i image (omega (arith, p .sized)) w ∙ p .sized,
           (
             rw k (still-marked xs (vec-items (p .flaws)) (p .count) i image (p .sized) h w (p .marked)),
-            (p .short, (p .sorted, (p .inside, (p .apart, tt)))),
+            (p .short, (p .sorted, (p .inside, (p .apart, (length-plate _ (vec-items (p .flaws)) (p .count), tt))))),
           ),
         ),
       ),
@@ -69,7 +69,7 @@ returns c =
     let h : i < p .count = within (p .count) i (length image) e in
     let w : length image ≡ 524 = whole-image (p .count) i (length image) e in
     let k = filled (p .memory) (c .fill-cell .last .memory) (c .as-mut-slice .result .now) (p .count) i image (p .sized) h w (c .as-mut-slice .ensures .value) (c .fill-cell .ensures) in
-    let mark = mark-read p i image (c .index .result .now) h (c .index .ensures) in
-    let flawed = c .any-covers .ensures ∙ ap (λ fs. covered fs i) (c .as-slice .ensures .value) in
-    let r = burn-blank p i image e _ (sym flawed) (refilled (p .memory) (c .fill-cell .last .memory)) (mark ∙ c .if-index-ne-BLANK .left) k in
+    let mark = ap (λ ys. mark-at ys (c .args .sector)) (sym (c .as-slice .ensures .value)) ∙ sym (c .mark-of .ensures) in
+    let flawed = c .any-covers .ensures ∙ ap (λ fs. covered fs i) (c .as-slice-2 .ensures .value) in
+    let r = burn-blank p i image e _ (sym flawed) (refilled (p .memory) (c .fill-cell .last .memory)) (mark ∙ c .if-mark-of-ne-BLANK .left) k in
     record { answer = ap Ok (c .of .ensures) ∙ r .0; after = r .1; cell = record { bytes = r .2; same-flaws = refl; same-count = refl } }

@@ -1,10 +1,7 @@
-use Prim.Native.Nat.{ℕ, _+_, _-_, _*_}
-use mathlib.Core.Path.{_≡_, sym, ap, _∙_}
+use mathlib.Core.Path.{sym, ap, _∙_}
 use mathlib.Core.Bool.{true, false}
-use lib.ListN.{length, take, drop}
-use native.Mathlib.Omega.{arith}
-use Rattle.medium.proofs.Reached.{within}
-use Rattle.plate.proofs.Accessed.{mark-read, read-blank, read-burnt, read-refused}
+use Rattle.plate.proofs.Accessed.{read-blank, read-burnt, read-refused}
+use Rattle.plate.specs.Cells.{image-at, mark-at}
 use Rattle.plate.specs.Flaws.{covered}
 use Rattle.std.proofs.shelf.Results.{err-from-errBy}
 use Rattle.std.specs.declared.result.Result.the-variants.{Err}
@@ -16,30 +13,24 @@ returns-in-Break-reach c =
     let r = read-refused (c .args .self .now) (c .args .sector) (c .args .image .now) (c .in-Break-reach .field-0 .0) (c .in-Break-reach .ensures tt) in
     record { answer = out .1 ∙ ap Err (out .2) ∙ r .0; image = r .1 }
 
-pub returns-then-index-eq-BLANK : need.returns-then-index-eq-BLANK
-returns-then-index-eq-BLANK c =
-    let e = c .in-Continue-reach .ensures tt in
-    let mark = mark-read (c .args .self .now) (c .args .sector) (c .args .image .now) (c .index .result .now) (within _ _ _ e) (c .index .ensures) in
-    let r = read-blank (c .args .self .now) (c .args .sector) (c .args .image .now) e (mark ∙ c .if-index-eq-BLANK .taken) in
+pub returns-then-mark-of-eq-BLANK : need.returns-then-mark-of-eq-BLANK
+returns-then-mark-of-eq-BLANK c =
+    let mark = ap (λ xs. mark-at xs (c .args .sector)) (sym (c .as-slice .ensures .value)) ∙ sym (c .mark-of .ensures) in
+    let r = read-blank (c .args .self .now) (c .args .sector) (c .args .image .now) (c .in-Continue-reach .ensures tt) (mark ∙ c .if-mark-of-eq-BLANK .taken) in
     record { answer = r .0; image = r .1 }
 
 pub returns-then-any-covers : need.returns-then-any-covers
 returns-then-any-covers c =
-    let e = c .in-Continue-reach .ensures tt in
-    let mark = mark-read (c .args .self .now) (c .args .sector) (c .args .image .now) (c .index .result .now) (within _ _ _ e) (c .index .ensures) in
-    let flawed = sym (c .if-any-covers .ensures tt ∙ ap (λ fs. covered fs (c .args .sector)) (c .as-slice .ensures .value)) in
-    let r = read-burnt (c .args .self .now) (c .args .sector) (c .args .image .now) e true flawed (λ z. c .if-index-eq-BLANK .left (sym mark ∙ z)) in
+    let mark = ap (λ xs. mark-at xs (c .args .sector)) (sym (c .as-slice .ensures .value)) ∙ sym (c .mark-of .ensures) in
+    let flawed = sym (c .if-any-covers .ensures tt ∙ ap (λ fs. covered fs (c .args .sector)) (c .as-slice-2 .ensures .value)) in
+    let r = read-burnt (c .args .self .now) (c .args .sector) (c .args .image .now) (c .in-Continue-reach .ensures tt) true flawed (λ z. c .if-mark-of-eq-BLANK .left (sym mark ∙ z)) in
     record { answer = r .0; image = r .1 }
 
 pub returns : need.returns
 returns c =
-    let e = c .in-Continue-reach .ensures tt in
     let i = c .args .sector in
-    let part : 525 * i + 525 - (525 * i + 1) ≡ 524 = omega arith in
-    let mark = mark-read (c .args .self .now) i (c .args .image .now) (c .index .result .now) (within _ _ _ e) (c .index .ensures) in
-    let flawed = sym (c .if-any-covers .ensures tt ∙ ap (λ fs. covered fs i) (c .as-slice .ensures .value)) in
-    let r = read-burnt (c .args .self .now) i (c .args .image .now) e false flawed (λ z. c .if-index-eq-BLANK .left (sym mark ∙ z)) in
-    let copied = c .copy-from-slice .ensures .after
-    ∙ ap (λ n. take n (drop (525 * i + 1) (c .deref .result .now))) part
-    ∙ ap (λ t. take 524 (drop (525 * i + 1) t)) (c .deref .ensures .value) in
+    let mark = ap (λ xs. mark-at xs i) (sym (c .as-slice .ensures .value)) ∙ sym (c .mark-of .ensures) in
+    let flawed = sym (c .if-any-covers .ensures tt ∙ ap (λ fs. covered fs i) (c .as-slice-2 .ensures .value)) in
+    let r = read-burnt (c .args .self .now) i (c .args .image .now) (c .in-Continue-reach .ensures tt) false flawed (λ z. c .if-mark-of-eq-BLANK .left (sym mark ∙ z)) in
+    let copied = c .copy-from-slice .ensures .after ∙ c .image-of .ensures .value ∙ ap (λ xs. image-at xs i) (c .as-slice-3 .ensures .value) in
     record { answer = r .0; image = copied ∙ r .1 }
