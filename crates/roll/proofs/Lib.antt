@@ -1,0 +1,3 @@
+mod Slotted
+mod Wound
+mod Accessed

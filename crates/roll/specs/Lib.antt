@@ -1,0 +1,4 @@
+pub mod Slots
+pub mod Rolls
+pub mod Access
+pub mod Opening
