@@ -16,7 +16,8 @@ pub fn agree(a: &Account, b: &Account) -> bool
     ensures exactly { λ r. ⌜ Decides r (Same-account (now (a .entry)) (now (b .entry))) ⌝ }
     ensures always { λ r. ⌜ Always-agree (now (a .entry)) (now (b .entry)) r ⌝ }
 {
-    same_lists(a.burnt.as_slice(), b.burnt.as_slice()) & same_lists(a.read.as_slice(), b.read.as_slice())
+    same_lists(a.burnt.as_slice(), b.burnt.as_slice())
+        & same_lists(a.read.as_slice(), b.read.as_slice())
 }
 
 // What can be told from another of its kind.

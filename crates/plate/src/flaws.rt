@@ -28,7 +28,7 @@ pub impl Keyed for Flaw as FlawKeyed {
 }
 
 impl Flaw {
-    fn covers(&self, sector: u32) -> bool
+    pub fn covers(&self, sector: u32) -> bool
         ensures { λ r. ⌜ r ≡ covers (now (self .entry)) sector ⌝ }
     {
         sector >= self.offset && sector - self.offset < self.length

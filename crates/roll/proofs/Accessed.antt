@@ -144,7 +144,7 @@ module _ (m : Roll) (i : ℕ) (image : List ℕ) where
             let here = at w judged None (no-slot none) in (
               burning-as s p i image row e _ here,
               ap (λ ys. roll-sectors ys p) k
-              ∙ roll-burnt xs p u i image (m .few) (m .sized) slots room-left inside (no-slot none) whole
-              ∙ sectors-as s p i image row e _ here,
+                  ∙ roll-burnt xs p u i image (m .few) (m .sized) slots room-left inside (no-slot none) whole
+                  ∙ sectors-as s p i image row e _ here,
               k ∙ bytes-as w judged None (no-slot none),
             )

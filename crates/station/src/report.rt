@@ -11,7 +11,7 @@ use medium::Medium;
 use medium::Refusal;
 use medium::Verdict;
 use medium::lowest_burnt;
-use plate::Flaw;
+use roll::WhyNot;
 use std::error::AnyError;
 use std::fmt;
 use std::io;
@@ -35,25 +35,16 @@ impl fmt::Display for Numbers<'_> as NumbersDisplay {
     }
 }
 
-pub(crate) fn print_plate(
+pub(crate) fn print_medium(
     rt: &LibcRuntime,
+    kind: &str,
     sectors: u32,
     bytes: usize,
-    flaws: &[Flaw],
 ) -> io::Result<()> {
     println!(
         rt,
-        "Bench test of a plate: {sectors} sectors in {bytes} bytes"
-    )?;
-    for flaw in flaws {
-        let offset = flaw.offset;
-        let length = flaw.length;
-        println!(
-            rt,
-            "  its flaw list makes {length} weak from sector {offset} on"
-        )?;
-    }
-    Ok(())
+        "Bench test of a {kind} of {sectors} sectors in {bytes} bytes"
+    )
 }
 
 pub(crate) fn print_account(
@@ -117,11 +108,18 @@ pub(crate) fn print_fault(rt: &LibcRuntime, fault: Fault) -> io::Result<()> {
     println!(rt, "refusal {number} of the {layer} at {place}, {meaning}")
 }
 
-// What the bench test can be refused by; the others come from layers that it does not reach.
+pub(crate) fn print_why_not(rt: &LibcRuntime, why: WhyNot) -> io::Result<()> {
+    match why {
+        WhyNot::Refused(fault) => print_fault(rt, fault),
+        WhyNot::NoMemory => println!(rt, "there is no memory for the index"),
+    }
+}
+
+// What a medium refuses; the other refusals come from layers that the bench test does not reach.
 fn meaning(refusal: Refusal) -> &'static str {
     match refusal {
-        Refusal::WrongMemory => "the memory is not as long as the plate",
-        Refusal::BrokenForm => "the memory or the flaw list has not the form of a plate's",
+        Refusal::WrongMemory => "the memory has not the medium's length",
+        Refusal::BrokenForm => "the memory or the flaw list has not the medium's form",
         Refusal::WrongLength => "the image has not 524 bytes",
         Refusal::NoSuchSector => "there is no such sector",
         Refusal::AlreadyBurnt => "the sector is burnt",
@@ -160,4 +158,9 @@ pub(crate) fn print_lowest_burnt<M: Medium>(rt: &LibcRuntime, medium: &M) -> io:
         Ok(Some(sector)) => println!(rt, "  the lowest burnt sector is {sector}"),
         Err(fault) => print_fault(rt, fault),
     }
+}
+
+pub(crate) fn print_reopened<M: Medium>(rt: &LibcRuntime, medium: &M) -> io::Result<()> {
+    println!(rt, "Closed and opened again")?;
+    print_lowest_burnt(rt, medium)
 }
