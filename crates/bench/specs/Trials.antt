@@ -8,7 +8,7 @@ use Rattle.bench.specs.declared.compare.ReadBack.{ReadBack}
 use Rattle.bench.specs.declared.compare.ReadBack.the-variants.{Blank, Spoiled, Same, Different}
 use Rattle.bench.specs.declared.trial.Account.{Account}
 use Rattle.medium.specs.Calls.{reach-or}
-use Rattle.medium.specs.Runs.{Written-once, after-burns, answer-at, burn-answers}
+use Rattle.medium.specs.Runs.{Burnt-in-order, answer-at}
 use Rattle.medium.specs.Sectors.{Sector, State, blank, burnt, sector-at}
 use Rattle.medium.specs.declared.faults.Fault.{Fault}
 use Rattle.medium.specs.declared.interface.Verdict.the-variants.{Sound, Weak}
@@ -53,10 +53,8 @@ alike (r ∷ rs) = one-if (found-same r) + alike rs
 
 -- burns bs took the sectors s to t, and a is the account of it
 pub record Tested (s : List Sector) (bs : List Burn) (a : Account) (t : List Sector) : Type 0 where
-  pub burns-answered : vec-items (a .burnt) ≡ burn-answers s bs
-  pub burns-done : t ≡ after-burns s bs
-  pub written-once : Written-once s bs (vec-items (a .burnt)) t
-  pub all-read : vec-items (a .read) ≡ map (reading-back t) bs
+  pub burnt-first : Burnt-in-order s bs (vec-items (a .burnt)) t
+  pub then-read : vec-items (a .read) ≡ map (reading-back t) bs
   -- what was burnt soundly reads back the same, and what proved weak reads back as spoiled
   pub sound-is-same : (k : ℕ) → k < length bs → answer-at (vec-items (a .burnt)) k ≡ Ok Sound → reading-at (vec-items (a .read)) k ≡ Ok Same
   pub weak-is-spoiled : (k : ℕ) → k < length bs → answer-at (vec-items (a .burnt)) k ≡ Ok Weak → reading-at (vec-items (a .read)) k ≡ Ok Spoiled

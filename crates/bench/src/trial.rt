@@ -25,7 +25,7 @@ pub fn bench_test<M: Medium>(
     medium: &mut M,
     burns: &[Burn],
 ) -> Result<Account, AllocError>
-    ensures { λ r. ⌜ Cases r (λ a. Tested (M·Medium .sectors (now (medium .entry))) (now (burns .entry)) a (M·Medium .sectors (now (medium .exit)))) (λ _. M·Medium .sectors (now (medium .exit)) ≡ M·Medium .sectors (now (medium .entry))) ⌝ }
+    ensures { λ r. ⌜ Cases r (λ a. Tested (M·Medium .sectors (now (medium .entry))) (now (burns .entry)) a (M·Medium .sectors (now (medium .exit)))) (λ _. now (medium .exit) ≡ now (medium .entry)) ⌝ }
 {
     let mut read = Vec::with_capacity(heap, burns.len())?;
     let burnt = burn_all(heap, medium, burns)?;

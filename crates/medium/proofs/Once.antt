@@ -65,6 +65,28 @@ module _ (s : List Sector) (i : ℕ) (image : List ℕ) where
       (λ h. ap (λ t. sector-at t j) (h .2) ∙ getD-set-other s i j _ beyond ne)
       changed-or-same
 
+  accepted-if : reaches (length s) i (length image) ≡ true → is-blank (sector-at s i .state) ≡ true → burning s i (length image) ≡ Ok (verdict (sector-at s i .weak))
+  accepted-if r b = cond-true (reaches (length s) i (length image)) _ _ r ∙ cond-true (is-blank (sector-at s i .state)) _ _ b
+
+  -- a burn that changes a sector is accepted
+  same-or-accepted : (sectors-after s i image ≡ s) ⊎ (burning s i (length image) ≡ Ok (verdict (sector-at s i .weak)))
+  same-or-accepted =
+      ⊎-elim
+      (λ r.
+      ⊎-elim
+      (λ b. inr (accepted-if r b))
+      (λ b. inl (cond-true (reaches (length s) i (length image)) _ _ r ∙ cond-false (is-blank (sector-at s i .state)) _ _ b))
+      (cases-bool (is-blank (sector-at s i .state))))
+      (λ r. inl (cond-false (reaches (length s) i (length image)) _ _ r))
+      (cases-bool (reaches (length s) i (length image)))
+
+  unaccepted-after : (j : ℕ) → ((v : Verdict) → burning s i (length image) ≡ Ok v → i ≡ j → ⊥) → sector-at (sectors-after s i image) j ≡ sector-at s j
+  unaccepted-after j h =
+      ⊎-elim
+      (λ e. ap (λ t. sector-at t j) e)
+      (λ ok. other-after j (λ e. h _ ok (sym e)))
+      same-or-accepted
+
   -- every sector is as it was, but the one that was changed
   after-at : (j : ℕ) → (sector-at (sectors-after s i image) j ≡ sector-at s j) ⊎ ((j ≡ i) × Changed)
   after-at j = ⊎-elim (λ e. inl (ap (λ t. sector-at t j) e)) (λ h. ⊎-elim (λ e. inr (e, h)) (λ ne. inl (other-after j ne)) (cases-eq j i)) changed-or-same
@@ -128,13 +150,21 @@ module _ (s : List Sector) (b : Burn) (bs : List Burn) where
           stays = a .stays;
         }
 
+    once-in : (j k : ℕ) (v w : Verdict) → j < k → k < length (b ∷ bs) → answer-at (burn-answers s (b ∷ bs)) j ≡ Ok v → answer-at (burn-answers s (b ∷ bs)) k ≡ Ok w → burn-at (b ∷ bs) j .sector ≡ burn-at (b ∷ bs) k .sector → ⊥
+    once-in j zero v w h l e f same = absurd (omega arith)
+    once-in zero (suc k) v w h l e f same =
+        let a = rest .accepted k w (omega arith) f in
+        blank-or-burnt _ (b .image) (a .was-blank) (ap (λ i. sector-at next i .state) (sym same) ∙ ap (λ x. x .state) (here-after s (b .sector) (b .image) (changed s (b .sector) (b .image) v e)))
+    once-in (suc j) (suc k) v w h l e f same = rest .once j k v w (omega arith) (omega arith) e f same
+
 pub written-once : (s : List Sector) (bs : List Burn) → Written-once s bs (burn-answers s bs) (after-burns s bs)
 written-once s [] =
     record {
       as-many = refl;
       as-weak = λ i. refl;
       burnt-stays = λ i image e. e;
-      unasked-stays = λ i h. refl;
+      unaccepted-stays = λ i h. refl;
+      once = λ j k v w h l. absurd (omega arith);
       answers-each = refl;
       accepted = λ k v h. absurd (omega arith);
     }
@@ -145,7 +175,8 @@ written-once s (b ∷ bs) =
       as-many = rest .as-many ∙ length-after s i (b .image);
       as-weak = λ j. rest .as-weak j ∙ weak-after s i (b .image) j;
       burnt-stays = λ j image e. rest .burnt-stays j image (burnt-after s i (b .image) j image e);
-      unasked-stays = λ j h. rest .unasked-stays j (λ k l. h (suc k) (omega arith)) ∙ other-after s i (b .image) j (λ e. h 0 (omega arith) (sym e));
+      unaccepted-stays = λ j h. rest .unaccepted-stays j (λ k v l. h (suc k) v (omega arith)) ∙ unaccepted-after s i (b .image) j (λ v. h 0 v (omega arith));
+      once = once-in s b bs rest;
       answers-each = ap suc (rest .answers-each);
       accepted = accepted-in s b bs rest;
     }

@@ -50,8 +50,16 @@ pub record Written-once (s : List Sector) (bs : List Burn) (rs : List (Result Ve
   pub as-weak : (i : ℕ) → sector-at t i .weak ≡ sector-at s i .weak
   -- what was burnt before the run is as it was
   pub burnt-stays : (i : ℕ) (image : List ℕ) → sector-at s i .state ≡ burnt image → sector-at t i .state ≡ burnt image
-  -- a sector that no burn asked for is as it was
-  pub unasked-stays : (i : ℕ) → ((k : ℕ) → k < length bs → burn-at bs k .sector ≡ i → ⊥) → sector-at t i ≡ sector-at s i
+  -- a sector that no accepted burn asked for is as it was
+  pub unaccepted-stays : (i : ℕ) → ((k : ℕ) (v : Verdict) → k < length bs → answer-at rs k ≡ Ok v → burn-at bs k .sector ≡ i → ⊥) → sector-at t i ≡ sector-at s i
+  -- no two burns of one sector are accepted
+  pub once : (j k : ℕ) (v w : Verdict) → j < k → k < length bs → answer-at rs j ≡ Ok v → answer-at rs k ≡ Ok w → burn-at bs j .sector ≡ burn-at bs k .sector → ⊥
   -- an accepted burn found its sector blank, told whether it is weak, and its bytes stand there when the run has ended
   pub answers-each : length rs ≡ length bs
   pub accepted : (k : ℕ) (v : Verdict) → k < length bs → answer-at rs k ≡ Ok v → Accepted s (burn-at bs k) v t
+
+-- the burns bs were asked for in order, of the sectors s: rs is what they answered, and t what they left
+pub record Burnt-in-order (s : List Sector) (bs : List Burn) (rs : List (Result Verdict Fault)) (t : List Sector) : Type 0 where
+  pub answered : rs ≡ burn-answers s bs
+  pub left : t ≡ after-burns s bs
+  pub once : Written-once s bs rs t

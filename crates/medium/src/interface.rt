@@ -4,6 +4,7 @@ ghost use mathlib.Core.Path.{_≡_};
 ghost use lib.ListN.{length};
 ghost use Rattle.medium.specs.Calls.{burning, image-after, reaching, reading, sectors-after, verdict};
 ghost use Rattle.medium.specs.Sectors.{Lawful, Sector};
+ghost use Rattle.std.specs.declared.result.Result.the-variants.{Err};
 use crate::faults::Fault;
 use crate::faults::Refusal;
 
@@ -53,7 +54,8 @@ pub trait Medium {
     // Gives a blank sector the image for good, and tells whether the sector is sound.
     fn burn(&mut self, sector: u32, image: &[u8]) -> Result<Verdict, Fault>
         ensures answer { λ r. ⌜ r ≡ burning (sectors (now (self .entry))) sector (length (now (image .entry))) ⌝ }
-        ensures after { λ _. ⌜ sectors (now (self .exit)) ≡ sectors-after (sectors (now (self .entry))) sector (now (image .entry)) ⌝ };
+        ensures after { λ _. ⌜ sectors (now (self .exit)) ≡ sectors-after (sectors (now (self .entry))) sector (now (image .entry)) ⌝ }
+        ensures untouched { λ r. ⌜ ((e : Fault) → r ≡ Err e → now (self .exit) ≡ now (self .entry)) ⌝ };
 }
 
 // Refuses an image of another length than a sector's, and then a sector past the last.

@@ -1,12 +1,10 @@
 // A whole run of burns on any medium.
-ghost use mathlib.Core.Bool.{cond};
 ghost use mathlib.Core.Path.{_≡_};
 ghost use lib.ListN.{length};
 ghost use Rattle.medium.specs.Calls.{burning, sectors-after};
-ghost use Rattle.medium.specs.Runs.{Written-once, after-burns, burn-answers};
+ghost use Rattle.medium.specs.Runs.{Burnt-in-order};
 ghost use Rattle.std.specs.Of.Vec.{vec-items};
-ghost use Rattle.std.specs.Results.{isOk};
-ghost use Rattle.std.specs.Vec.{made};
+ghost use Rattle.std.specs.Results.{Cases};
 use crate::faults::Fault;
 use crate::interface::IMAGE_BYTES;
 use crate::interface::Medium;
@@ -28,9 +26,7 @@ pub fn burn_all<M: Medium>(
     medium: &mut M,
     burns: &[Burn],
 ) -> Result<Vec<Result<Verdict, Fault>>, AllocError>
-    ensures answers { λ r. ⌜ made r (λ v. vec-items v ≡ burn-answers (M·Medium .sectors (now (medium .entry))) (now (burns .entry))) ⌝ }
-    ensures after { λ r. ⌜ M·Medium .sectors (now (medium .exit)) ≡ cond (isOk r) (after-burns (M·Medium .sectors (now (medium .entry))) (now (burns .entry))) (M·Medium .sectors (now (medium .entry))) ⌝ }
-    ensures once { λ r. ⌜ made r (λ v. Written-once (M·Medium .sectors (now (medium .entry))) (now (burns .entry)) (vec-items v) (M·Medium .sectors (now (medium .exit)))) ⌝ }
+    ensures { λ r. ⌜ Cases r (λ v. Burnt-in-order (M·Medium .sectors (now (medium .entry))) (now (burns .entry)) (vec-items v) (M·Medium .sectors (now (medium .exit)))) (λ _. now (medium .exit) ≡ now (medium .entry)) ⌝ }
 {
     let mut answers = Vec::with_capacity(heap, burns.len())?;
     for burn in burns {

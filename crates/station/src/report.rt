@@ -143,7 +143,7 @@ fn print_readings(rt: &LibcRuntime, plan: &[Burn], account: &Account) -> Result<
     let bytes = same.saturating_mul(IMAGE_BYTES);
     println!(
         rt,
-        "  {same} sectors hold what was burnt: {bytes} bytes compared equal"
+        "  {same} sectors hold the bytes asked for: {bytes} bytes compared equal"
     )?;
     let spoiled = Numbers(spoiled.as_slice());
     println!(rt, "  spoiled: {spoiled}")?;

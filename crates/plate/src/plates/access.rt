@@ -3,6 +3,7 @@ ghost use mathlib.Core.Path.{_≡_};
 ghost use lib.ListN.{length};
 ghost use Rattle.medium.specs.Calls.{burning, sectors-after};
 ghost use Rattle.plate.specs.Access.{Burnt-in-cell, sectors-of};
+ghost use Rattle.std.specs.declared.result.Result.the-variants.{Err};
 use crate::cells::BLANK;
 use crate::cells::fill_cell;
 use crate::cells::image_of;
@@ -39,6 +40,7 @@ pub impl Medium for Plate as PlateMedium {
     fn burn(&mut self, sector: u32, image: &[u8]) -> Result<Verdict, Fault>
         ensures answer { λ r. ⌜ r ≡ burning (sectors-of (now (self .entry))) sector (length (now (image .entry))) ⌝ }
         ensures after { λ _. ⌜ sectors-of (now (self .exit)) ≡ sectors-after (sectors-of (now (self .entry))) sector (now (image .entry)) ⌝ }
+        ensures untouched { λ r. ⌜ ((e : Fault) → r ≡ Err e → now (self .exit) ≡ now (self .entry)) ⌝ }
         ensures cell { λ _. ⌜ Burnt-in-cell (now (self .entry)) sector (now (image .entry)) (now (self .exit)) ⌝ }
     {
         reach(self.count, sector, image.len())?;

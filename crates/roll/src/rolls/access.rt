@@ -3,6 +3,7 @@ ghost use mathlib.Core.Path.{_≡_};
 ghost use lib.ListN.{length};
 ghost use Rattle.medium.specs.Calls.{burning, sectors-after};
 ghost use Rattle.roll.specs.Access.{Burnt-in-slot, sectors-of};
+ghost use Rattle.std.specs.declared.result.Result.the-variants.{Err};
 use crate::rolls::Roll;
 use crate::slots::NO_SLOT;
 use crate::slots::SLOT_BYTES;
@@ -40,6 +41,7 @@ pub impl Medium for Roll as RollMedium {
     fn burn(&mut self, sector: u32, image: &[u8]) -> Result<Verdict, Fault>
         ensures answer { λ r. ⌜ r ≡ burning (sectors-of (now (self .entry))) sector (length (now (image .entry))) ⌝ }
         ensures after { λ _. ⌜ sectors-of (now (self .exit)) ≡ sectors-after (sectors-of (now (self .entry))) sector (now (image .entry)) ⌝ }
+        ensures untouched { λ r. ⌜ ((e : Fault) → r ≡ Err e → now (self .exit) ≡ now (self .entry)) ⌝ }
         ensures slot { λ _. ⌜ Burnt-in-slot (now (self .entry)) sector (now (image .entry)) (now (self .exit)) ⌝ }
     {
         reach(self.count, sector, image.len())?;

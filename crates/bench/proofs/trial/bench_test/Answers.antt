@@ -32,13 +32,11 @@ returns g c =
     let s = g .M·Medium .sectors (c .args .medium .now) in
     let t = g .M·Medium .sectors (c .burn-all .last .medium) in
     let bs = c .args .burns .now in
-    let once = c .in-Continue-burnt .ensures tt .once in
+    let run = c .in-Continue-burnt .ensures tt in
     let all = c .loop-burn .inv .0 ∙ ap (map (reading-back t)) (take-all (c .loop-burn .burn-index) bs (c .loop-burn-test .left)) in
     record {
-      burns-answered = c .in-Continue-burnt .ensures tt .answers;
-      burns-done = c .in-Continue-burnt .ensures tt .after;
-      written-once = once;
-      all-read = all;
-      sound-is-same = λ k h e. ap (λ rs. reading-at rs k) all ∙ agrees s bs _ t once k Sound h e;
-      weak-is-spoiled = λ k h e. ap (λ rs. reading-at rs k) all ∙ agrees s bs _ t once k Weak h e;
+      burnt-first = run;
+      then-read = all;
+      sound-is-same = λ k h e. ap (λ rs. reading-at rs k) all ∙ agrees s bs _ t (run .once) k Sound h e;
+      weak-is-spoiled = λ k h e. ap (λ rs. reading-at rs k) all ∙ agrees s bs _ t (run .once) k Weak h e;
     }

