@@ -10,7 +10,7 @@ use medium::IMAGE_BYTES;
 
 const NUMBER_BYTES: usize = 4;
 
-pub(crate) const SLOT_BYTES: usize = NUMBER_BYTES + IMAGE_BYTES;
+const SLOT_BYTES: usize = NUMBER_BYTES + IMAGE_BYTES;
 
 // A verdict and a slot.
 pub const BYTES_A_SECTOR: usize = 1 + SLOT_BYTES;
@@ -40,6 +40,13 @@ pub(crate) fn are_verdicts(memory: &[u8], count: u32) -> bool
     true
 }
 
+// Where a slot of a roll of `count` sectors begins.
+pub(crate) fn slot_at(count: u32, slot: u32) -> usize
+    ensures { λ r. ⌜ r ≡ count + 528 * slot ⌝ }
+{
+    count as usize + SLOT_BYTES * slot as usize
+}
+
 fn number_in(memory: &[u8], at: usize) -> u32
     requires { ⌜ at + 4 ≤ length (now memory) ⌝ }
     ensures { λ r. ⌜ r ≡ number-at (now (memory .entry)) at ⌝ }
@@ -53,7 +60,7 @@ pub(crate) fn slot_image(memory: &[u8], count: u32, slot: u32) -> &[u8]
     ensures value { λ r. ⌜ now r ≡ slot-image (now (memory .entry)) count slot ⌝ }
     ensures long { λ r. ⌜ length (now r) ≡ 524 ⌝ }
 {
-    let at = count as usize + SLOT_BYTES * slot as usize + NUMBER_BYTES;
+    let at = slot_at(count, slot) + NUMBER_BYTES;
     &memory[at..at + IMAGE_BYTES]
 }
 
@@ -74,7 +81,7 @@ pub(crate) fn fill_index(memory: &[u8], index: &mut [u32], count: u32) -> Option
 {
     let mut used = 0;
     for slot in 0..count {
-        let number = number_in(memory, count as usize + SLOT_BYTES * slot as usize);
+        let number = number_in(memory, slot_at(count, slot));
         if number == NO_SLOT {
             continue;
         }

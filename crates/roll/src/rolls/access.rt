@@ -6,8 +6,8 @@ ghost use Rattle.roll.specs.Access.{Burnt-in-slot, sectors-of};
 ghost use Rattle.std.specs.declared.result.Result.the-variants.{Err};
 use crate::rolls::Roll;
 use crate::slots::NO_SLOT;
-use crate::slots::SLOT_BYTES;
 use crate::slots::is_weak;
+use crate::slots::slot_at;
 use crate::slots::slot_image;
 use crate::slots::write_slot;
 use medium::Fault;
@@ -48,7 +48,7 @@ pub impl Medium for Roll as RollMedium {
         if self.index[sector as usize] != NO_SLOT {
             return Err(Fault::in_medium(Refusal::AlreadyBurnt, sector));
         }
-        let at = self.count as usize + SLOT_BYTES * self.used as usize;
+        let at = slot_at(self.count, self.used);
         write_slot(self.memory.as_mut_slice(), at, sector, image);
         self.index[sector as usize] = self.used;
         self.used += 1;

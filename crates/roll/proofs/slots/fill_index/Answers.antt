@@ -5,7 +5,7 @@ use native.Mathlib.Omega.{arith}
 use Rattle.std.proofs.shelf.Lanes.{getD-replicate, length-replicate}
 use Rattle.std.proofs.shelf.Lists.{length-set}
 use Rattle.roll.proofs.Slotted.{told, code-none, code-some, unused-more, unused-index, used-more, used-index, broken-number, broken-order, broken-twice, free-set, free-all}
-use Rattle.roll.specs.Slots.{slot-number, slot-of, slot-code, free}
+use Rattle.roll.specs.Slots.{free, number-at, slot-code, slot-number, slot-of}
 use Rattle.roll.proofs.slots.fill_index.Needs as need
 use Rattle.roll.proofs.slots.fill_index.Needs.{then-number-count·by·then-number-count, then-number-count·by·else-number-count·then-used-slot, then-number-count·by·else-number-count·else-used-slot·then-index-number}
 
@@ -22,7 +22,7 @@ loop-slot-holds c =
 
 pub loop-slot-again-then-number : need.loop-slot-again-then-number
 loop-slot-again-then-number c =
-    let e = sym (c .number-in-number .ensures) ∙ c .if-number .taken in (
+    let e = sym (c .number-in-number .ensures ∙ ap (number-at (c .args .memory .now)) (c .slot-at .ensures)) ∙ c .if-number .taken in (
       unused-more (c .args .memory .now) (c .args .count) (c .loop-slot .slot) (c .loop-slot .used) (c .loop-slot .inv .0) e,
       unused-index (c .args .memory .now) (c .args .count) (c .loop-slot .slot) (c .loop-slot .index) (c .pre .1 .1) e (c .loop-slot .inv .1),
       c .loop-slot .inv .2,
@@ -35,7 +35,7 @@ returns-then-number-count c =
     let p = c .args .count in
     let n = c .loop-slot .slot in
     let m = c .number-in-number .result in
-    let e = c .number-in-number .ensures in
+    let e = c .number-in-number .ensures ∙ ap (number-at (c .args .memory .now)) (c .slot-at .ensures) in
     let l = c .loop-slot-test .taken in
     let ne : slot-number xs p n ≡ 4294967295 → ⊥ = λ z. c .if-number .left (e ∙ z) in
     elim (c .then-number-count .came) [
@@ -53,7 +53,7 @@ loop-slot-again c =
     let p = c .args .count in
     let n = c .loop-slot .slot in
     let m = c .number-in-number .result in
-    let e = c .number-in-number .ensures in
+    let e = c .number-in-number .ensures ∙ ap (number-at (c .args .memory .now)) (c .slot-at .ensures) in
     let l : m < p = omega (arith, c .if-number-count .left) in
     let long : length (c .loop-slot .index) ≡ p = c .loop-slot .inv .3 in
     let z : getD (c .loop-slot .index) m 0 ≡ 4294967295 = c .if-index-number .left in

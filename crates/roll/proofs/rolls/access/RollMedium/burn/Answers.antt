@@ -68,7 +68,7 @@ ghost-self c =
     let image = c .args .image .now in
     let e = c .in-Continue-reach .ensures tt in
     let n = c .index .result .now in
-    let k = still-kept m i image e n (c .index .ensures) (c .if-index .left) (c .write-slot .last .memory) (c .as-mut-slice .result .now) (c .as-mut-slice .ensures .value) (c .write-slot .ensures) in
+    let k = still-kept m i image e n (c .index .ensures) (c .if-index .left) (c .write-slot .last .memory) (c .as-mut-slice .result .now) (c .as-mut-slice .ensures .value) (c .write-slot .ensures ∙ ap (λ at. with-slot (c .as-mut-slice .result .now) at i image) (c .slot-at-at .ensures)) in
     let room = room-then m i image e n (c .index .ensures) (c .if-index .left) in (
       m .some,
       (
@@ -91,7 +91,7 @@ returns c =
     let e = c .in-Continue-reach .ensures tt in
     let n = c .index .result .now in
     let v = refilled (m .memory) (c .write-slot .last .memory) in
-    let k = new-bytes m i image e n (c .index .ensures) (c .if-index .left) (c .write-slot .last .memory) (c .as-mut-slice .result .now) (c .as-mut-slice .ensures .value) (c .write-slot .ensures) in
+    let k = new-bytes m i image e n (c .index .ensures) (c .if-index .left) (c .write-slot .last .memory) (c .as-mut-slice .result .now) (c .as-mut-slice .ensures .value) (c .write-slot .ensures ∙ ap (λ at. with-slot (c .as-mut-slice .result .now) at i image) (c .slot-at-at .ensures)) in
     let judged = judged-then m i image e n (c .index .ensures) (c .if-index .left) (c .as-slice .result .now) (c .as-slice .ensures .value ∙ k) in
     let r = burn-blank m i image e n (c .index .ensures) (c .if-index .left) v _ (sym judged ∙ sym (c .is-weak .ensures)) k in
     record {
