@@ -1,0 +1,3 @@
+mod Formed
+mod Standing
+mod Ruled
