@@ -13,6 +13,7 @@ use Rattle.maps.specs.Reading.{checked, fitting, given-layout, last-track, rea
 use Rattle.maps.specs.Sheets.{band-at, band-count, band-or-none, first-sector, first-track, identified, layout-in, overflow-entry, prime-tracks}
 use Rattle.maps.specs.declared.bands.Band.{Band}
 use Rattle.maps.specs.declared.bands.Layout.{Layout}
+use Rattle.maps.specs.declared.bands.Use.the-variants.{Prime}
 use Rattle.medium.specs.declared.faults.Fault.{Fault}
 use Rattle.medium.specs.declared.faults.Refusal.the-variants.{WrongSectorCount, BrokenLayout}
 use Rattle.std.proofs.shelf.Counted.{getD-map-counting, length-map-counting, take-map-counting}
@@ -83,7 +84,7 @@ whole-first t = cond-both (leb t 19999) (32 * (t + 2)) 640064 (λ s. s % 32 ≡ 
 whole-at : (d : List ℕ) (k : ℕ) → whole-tracks (band-at d k) ≡ true
 unfolding band-at
 whole-at d k =
-    let f = cond-both (overflow-entry d k) 0 (first-sector (first-track d k _)) (λ s. s % 32 ≡ 0) (λ _. refl) (λ _. whole-first _) in
+    let f = cond-both (overflow-entry d k) 0 (first-sector (first-track d k Prime)) (λ s. s % 32 ≡ 0) (λ _. refl) (λ _. whole-first _) in
     let h = cond-both (overflow-entry d k) 0 (32 * prime-tracks d k) (λ s. s % 32 ≡ 0) (λ _. refl) (λ _. omega arith) in
     and-from _ _ (and-from _ _ (eq-eqb _ _ (whole-first _)) (eq-eqb _ _ (whole-first _))) (and-from _ _ (eq-eqb _ _ f) (eq-eqb _ _ h))
 

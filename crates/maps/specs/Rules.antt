@@ -1,6 +1,6 @@
 -- The rules of a layout, over the bytes of its sheet, for a medium whose last track is n.
 use Prim.Native.Nat.{ℕ, _+_, _*_, _≤_, _<_}
-use mathlib.Core.Bool.{cond, true, false}
+use mathlib.Core.Bool.{cond, false}
 use mathlib.Core.List.{List}
 use mathlib.Core.Path.{_≡_}
 use lib.ListN.{getD}
@@ -34,7 +34,7 @@ pub record Layout-rules (n : ℕ) (d : List ℕ) : Type 0 where
   -- no track lies in two areas
   pub disjoint : (k j : ℕ) (a b : Use) (t : ℕ) → Lies-in d k a t → Lies-in d j b t → (k ≡ j) × (a ≡ b)
   -- a prime area has a track at least, and begins behind those of the bands before
-  pub some-track : (k : ℕ) → Has-prime d k → (1 ≤ prime-tracks d k) × (first-track d k Prime ≤ n)
+  pub some-track : (k : ℕ) → Has-prime d k → 1 ≤ prime-tracks d k
   pub rising : (k j : ℕ) → Has-prime d k → Has-prime d j → k < j → first-track d k Prime < first-track d j Prime
   -- some band has one
   pub some-prime : (k : ℕ) × Has-prime d k
