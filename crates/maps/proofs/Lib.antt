@@ -1,3 +1,4 @@
 mod Formed
 mod Standing
 mod Ruled
+mod Told

@@ -8,8 +8,8 @@ use native.Mathlib.Omega.{arith}
 use lib.Dec.{eqb, leb, ltb}
 use lib.ListN.{length, getD}
 use Rattle.maps.proofs.Formed.{band-used, used-many}
-use Rattle.maps.proofs.Standing.{In, Stands, all-stand, apart-by, each-stands, first-of, homes-within, one-area, pair-from, pair-rises, pair-separate, primes-inside, size-of, some-home, stands, two-apart}
-use Rattle.maps.specs.Places.{apart, band-stands, bands-apart, bands-of, bands-stand, block-count, inside, no-band, overflow, rises-to, sectors-for, valid}
+use Rattle.maps.proofs.Standing.{In, Stands, all-stand, apart-by, each-stands, homes-within, one-area, pair-from, pair-rises, pair-separate, primes-inside, some-home, stands, two-apart}
+use Rattle.maps.specs.Places.{apart, band-stands, bands-apart, bands-of, bands-stand, block-count, first-of, inside, no-band, overflow, rises-to, sectors-for, size-of, valid}
 use Rattle.maps.specs.Rules.{Has-prime, Layout-rules, Lies-in, tracks-of}
 use Rattle.maps.specs.Sheets.{band-at, band-count, first-sector, first-track, identified, layout-in, overflow-entry, prime-tracks}
 use Rattle.maps.specs.declared.bands.Band.{Band}
@@ -66,7 +66,7 @@ module _ (n : ℕ) (d : List ℕ) (small : n ≤ 19999) where
   unfolding band-at
   prime-homes k e = cond-false (overflow-entry d k) _ _ e
 
-  no-prime : (k : ℕ) → overflow-entry d k ≡ true → (band-at d k .first ≡ 0) × (band-at d k .homes ≡ 0)
+  pub no-prime : (k : ℕ) → overflow-entry d k ≡ true → (band-at d k .first ≡ 0) × (band-at d k .homes ≡ 0)
   unfolding band-at
   no-prime k e = (cond-true (overflow-entry d k) _ _ e, cond-true (overflow-entry d k) _ _ e)
 
@@ -213,7 +213,7 @@ module _ (n : ℕ) (d : List ℕ) (small : n ≤ 19999) where
     prime-count : (k : ℕ) → overflow-entry d k ≡ false → tracks-of d k Prime ≡ prime-tracks d k
     prime-count k o = cond-false (overflow-entry d k) 0 (prime-tracks d k) o
 
-    kept-area : (k : ℕ) (a : Use) → k < band-count d → 1 ≤ tracks-of d k a → Area-at k a
+    pub kept-area : (k : ℕ) (a : Use) → k < band-count d → 1 ≤ tracks-of d k a → Area-at k a
     kept-area k Map h some =
         let e = last-lies k Map h some in
         record { first = map-first k ∙ first-near (first-track d k Map) (omega arith); size = refl; end = e }

@@ -7,22 +7,11 @@ use mathlib.Core.Logic.{⊎-elim}
 use native.Mathlib.Omega.{arith}
 use lib.Dec.{eqb, leb, ltb}
 use lib.ListN.{length, getD}
-use Rattle.maps.specs.Places.{apart, apart-from-all, area-apart, band-stands, bands-apart, bands-stand, block-count, inside, no-band, overflow, rises-to}
+use Rattle.maps.specs.Places.{apart, apart-from-all, area-apart, band-stands, bands-apart, bands-stand, block-count, first-of, inside, no-band, overflow, rises-to, size-of}
 use Rattle.maps.specs.declared.bands.Band.{Band}
 use Rattle.maps.specs.declared.bands.Use.{Use}
 use Rattle.maps.specs.declared.bands.Use.the-variants.{Map, Alternative, Prime}
 use Rattle.std.proofs.shelf.Tests.{and-from, and-parts, cases-lt, cond-false, leb-true, ne-eqb, or-cases}
-
--- the first sector and the size of an area
-abbrev pub first-of : Band → Use → ℕ
-first-of x Map = x .maps
-first-of x Alternative = x .spares
-first-of x Prime = x .first
-
-abbrev pub size-of : Band → Use → ℕ
-size-of x Map = 128
-size-of x Alternative = 128
-size-of x Prime = x .homes
 
 abbrev pub apart-by : Band → Use → Band → Use → Bool
 apart-by x a y b = apart (first-of x a) (size-of x a) (first-of y b) (size-of y b)

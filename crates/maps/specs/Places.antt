@@ -3,17 +3,34 @@ use Prim.Native.Nat.{ℕ, _+_, _-_, _*_, _%_}
 use mathlib.Core.Bool.{Bool, true, cond, _&&_, _||_}
 use mathlib.Core.List.{List, [], _∷_}
 use lib.Dec.{eqb, leb, ltb}
-use lib.ListN.{take}
+use lib.ListN.{getD, take}
 use Rattle.maps.specs.declared.bands.Band.{Band}
 use Rattle.maps.specs.declared.bands.Layout.{Layout}
+use Rattle.maps.specs.declared.bands.Use.{Use}
+use Rattle.maps.specs.declared.bands.Use.the-variants.{Map, Alternative, Prime}
 
 -- an overflow band has no home
 abbrev pub overflow : Band → Bool
 overflow x = eqb (x .homes) 0
 
+-- the first sector of an area, and how many it has
+abbrev pub first-of : Band → Use → ℕ
+first-of x Map = x .maps
+first-of x Alternative = x .spares
+first-of x Prime = x .first
+
+abbrev pub size-of : Band → Use → ℕ
+size-of x Map = 128
+size-of x Alternative = 128
+size-of x Prime = x .homes
+
 -- what stands in the places of bands that are not in use
 abbrev pub no-band : Band
 no-band = record { maps = 0; spares = 0; first = 0; homes = 0 }
+
+-- place k of the eight
+abbrev pub band-of : Layout → ℕ → Band
+band-of l k = getD (l .bands) k no-band
 
 -- the bands that are in use
 abbrev pub bands-of : Layout → List Band

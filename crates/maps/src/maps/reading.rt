@@ -3,7 +3,8 @@ ghost use lib.ListN.{length};
 ghost use mathlib.Core.Path.{_≡_};
 ghost use Prim.Native.Nat.{ℕ};
 ghost use Rattle.format.specs.Laws.{format-fault};
-ghost use Rattle.maps.specs.Reading.{fitting, layout-answer, reading-layout};
+ghost use Rattle.maps.specs.Reading.{Layout-read, Layout-refused, fitting, layout-answer, reading-layout};
+ghost use Rattle.std.specs.Results.{Cases};
 use crate::bands::SECTORS_PER_TRACK;
 use crate::bands::TRACKS_BEFORE_END;
 use crate::maps::Maps;
@@ -39,6 +40,7 @@ impl Maps {
     pub fn read(sectors: u32, sheet: &[u8]) -> Result<Maps, Fault>
         requires { ⌜ length (now sheet) ≡ 512 ⌝ }
         ensures answer { λ r. ⌜ layout-answer r ≡ reading-layout sectors (now (sheet .entry)) ⌝ }
+        ensures rules { λ r. ⌜ Cases r (Layout-read sectors (now (sheet .entry))) (Layout-refused sectors (now (sheet .entry))) ⌝ }
     {
         if !is_fitting(sectors) {
             return Err(refused(Refusal::WrongSectorCount));

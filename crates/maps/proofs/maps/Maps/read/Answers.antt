@@ -2,12 +2,13 @@ use mathlib.Core.Bool.{Bool, _&&_, true, false}
 use mathlib.Core.Path.{_≡_, _∙_}
 use Rattle.std.proofs.shelf.Tests.{and-parts}
 use Rattle.maps.proofs.Formed.{broken, kept, read-formed, read-laid, unfitting}
+use Rattle.maps.proofs.Told.{read-as, refused-rules, refused-size}
 use Rattle.maps.specs.Places.{valid}
 use Rattle.maps.specs.Sheets.{identified}
 use Rattle.maps.proofs.maps.Maps.read.Needs as need
 
 pub returns-then-not-is-fitting : need.returns-then-not-is-fitting
-returns-then-not-is-fitting c = record { answer = unfitting (c .args .sectors) (c .args .sheet .now) _ (c .if-not-is-fitting .ensures tt) (c .refused .ensures) }
+returns-then-not-is-fitting c = record { answer = unfitting (c .args .sectors) (c .args .sheet .now) _ (c .if-not-is-fitting .ensures tt) (c .refused .ensures); rules = refused-size (c .args .sectors) (c .args .sheet .now) _ (c .if-not-is-fitting .ensures tt) (c .refused .ensures) }
 
 pub is-valid-requires : need.is-valid-requires
 is-valid-requires c κs = read-laid (c .args .sectors) (c .args .sheet .now) _ (c .if-not-is-fitting .ensures tt) (c .layout-in-layout .ensures)
@@ -18,7 +19,7 @@ tested r s i v e f = cc
 
 pub returns-then-not-is-identified-is-valid : need.returns-then-not-is-identified-is-valid
 returns-then-not-is-identified-is-valid c =
-    record { answer = broken (c .args .sectors) (c .args .sheet .now) _ _ (c .if-not-is-fitting .ensures tt) (c .layout-in-layout .ensures) (tested _ _ _ _ (c .is-identified .ensures) (c .is-valid .ensures) ∙ c .if-not-is-identified-is-valid .taken) (c .refused-then-not-is-identified-is-valid .ensures) }
+    record { answer = broken (c .args .sectors) (c .args .sheet .now) _ _ (c .if-not-is-fitting .ensures tt) (c .layout-in-layout .ensures) (tested _ _ _ _ (c .is-identified .ensures) (c .is-valid .ensures) ∙ c .if-not-is-identified-is-valid .taken) (c .refused-then-not-is-identified-is-valid .ensures); rules = refused-rules (c .args .sectors) (c .args .sheet .now) _ _ (c .if-not-is-fitting .ensures tt) (c .layout-in-layout .ensures) (tested _ _ _ _ (c .is-identified .ensures) (c .is-valid .ensures) ∙ c .if-not-is-identified-is-valid .taken) (c .refused-then-not-is-identified-is-valid .ensures) }
 
 pub ghost-result : need.ghost-result
 ghost-result c =
@@ -29,4 +30,9 @@ ghost-result c =
 
 pub returns : need.returns
 returns c =
-    record { answer = kept (c .args .sectors) (c .args .sheet .now) _ (c .if-not-is-fitting .ensures tt) (c .layout-in-layout .ensures) (tested _ _ _ _ (c .is-identified .ensures) (c .is-valid .ensures) ∙ c .if-not-is-identified-is-valid .left) }
+    let t = tested _ _ _ _ (c .is-identified .ensures) (c .is-valid .ensures) ∙ c .if-not-is-identified-is-valid .left in
+    let parts = read-as (c .args .sectors) (c .args .sheet .now) _ (c .if-not-is-fitting .ensures tt) (c .layout-in-layout .ensures) t in
+    record {
+      answer = kept (c .args .sectors) (c .args .sheet .now) _ (c .if-not-is-fitting .ensures tt) (c .layout-in-layout .ensures) t;
+      rules = record { tracks = parts .0; rules = parts .1; given = parts .2 };
+    }
