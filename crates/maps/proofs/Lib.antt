@@ -2,3 +2,4 @@ mod Formed
 mod Standing
 mod Ruled
 mod Told
+mod Found

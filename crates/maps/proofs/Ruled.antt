@@ -8,8 +8,8 @@ use native.Mathlib.Omega.{arith}
 use lib.Dec.{eqb, leb, ltb}
 use lib.ListN.{length, getD}
 use Rattle.maps.proofs.Formed.{band-used, used-many}
-use Rattle.maps.proofs.Standing.{In, Stands, all-stand, apart-by, each-stands, homes-within, one-area, pair-from, pair-rises, pair-separate, primes-inside, some-home, stands, two-apart}
-use Rattle.maps.specs.Places.{apart, band-stands, bands-apart, bands-of, bands-stand, block-count, first-of, inside, no-band, overflow, rises-to, sectors-for, size-of, valid}
+use Rattle.maps.proofs.Standing.{Stands, all-stand, apart-by, each-stands, homes-within, one-area, pair-from, pair-rises, pair-separate, primes-inside, some-home, stands, two-apart}
+use Rattle.maps.specs.Places.{In-area, apart, band-stands, bands-apart, bands-of, bands-stand, block-count, first-of, inside, no-band, overflow, rises-to, sectors-for, size-of, valid}
 use Rattle.maps.specs.Rules.{Has-prime, Layout-rules, Lies-in, tracks-of}
 use Rattle.maps.specs.Sheets.{band-at, band-count, first-sector, first-track, identified, layout-in, overflow-entry, prime-tracks}
 use Rattle.maps.specs.declared.bands.Band.{Band}
@@ -107,7 +107,7 @@ module _ (n : ℕ) (d : List ℕ) (small : n ≤ 19999) where
       (cases-bool (overflow-entry d k))
 
   -- a track of an area is a sector of it
-  lies : (k : ℕ) (a : Use) (t : ℕ) → Lies-in d k a t → Area-at k a → In (band-at d k) a (32 * (t + 2))
+  lies : (k : ℕ) (a : Use) (t : ℕ) → Lies-in d k a t → Area-at k a → In-area (band-at d k) a (32 * (t + 2))
   lies k a t l r =
       let f = r .first in
       let s = r .size in
@@ -119,7 +119,7 @@ module _ (n : ℕ) (d : List ℕ) (small : n ≤ 19999) where
   some-tracks k a t l = let from = l .from in let before = l .before in omega arith
 
   module _ (each : (k : ℕ) → k < band-count d → Stands (sectors-for n) (band-at d k)) (two : (k j : ℕ) → k < j → j < band-count d → bands-apart (band-at d k) (band-at d j) ≡ true) where
-    in-band : (k : ℕ) (a : Use) (t : ℕ) → Lies-in d k a t → In (band-at d k) a (32 * (t + 2))
+    in-band : (k : ℕ) (a : Use) (t : ℕ) → Lies-in d k a t → In-area (band-at d k) a (32 * (t + 2))
     in-band k a t l = lies k a t l (stood k (each k (l .band)) a (some-tracks k a t l))
 
     inside-rule : (k : ℕ) (a : Use) (t : ℕ) → Lies-in d k a t → t ≤ n
@@ -132,7 +132,7 @@ module _ (n : ℕ) (d : List ℕ) (small : n ≤ 19999) where
     disjoint-rule : (k j : ℕ) (a b : Use) (t : ℕ) → Lies-in d k a t → Lies-in d j b t → (k ≡ j) × (a ≡ b)
     disjoint-rule k j a b t l m =
         ⊎-elim
-        (λ (e : k ≡ j). (e, one-area _ (band-at d k) (each k (l .band)) a b (32 * (t + 2)) (in-band k a t l) (subst (λ i. In (band-at d i) b (32 * (t + 2))) (sym e) (in-band j b t m))))
+        (λ (e : k ≡ j). (e, one-area _ (band-at d k) (each k (l .band)) a b (32 * (t + 2)) (in-band k a t l) (subst (λ i. In-area (band-at d i) b (32 * (t + 2))) (sym e) (in-band j b t m))))
         (⊎-elim
           (λ (h : k < j). absurd (pair-separate (band-at d k) (band-at d j) (two k j h (m .band)) a b (32 * (t + 2)) (in-band k a t l) (in-band j b t m)))
           (λ (h : j < k). absurd (pair-separate (band-at d j) (band-at d k) (two j k h (l .band)) b a (32 * (t + 2)) (in-band j b t m) (in-band k a t l))))

@@ -7,7 +7,7 @@ use mathlib.Core.Logic.{⊎-elim}
 use native.Mathlib.Omega.{arith}
 use lib.Dec.{eqb, leb, ltb}
 use lib.ListN.{length, getD}
-use Rattle.maps.specs.Places.{apart, apart-from-all, area-apart, band-stands, bands-apart, bands-stand, block-count, first-of, inside, no-band, overflow, rises-to, size-of}
+use Rattle.maps.specs.Places.{In-area, apart, apart-from-all, area-apart, band-stands, bands-apart, bands-stand, block-count, first-of, inside, no-band, overflow, rises-to, size-of}
 use Rattle.maps.specs.declared.bands.Band.{Band}
 use Rattle.maps.specs.declared.bands.Use.{Use}
 use Rattle.maps.specs.declared.bands.Use.the-variants.{Map, Alternative, Prime}
@@ -15,10 +15,6 @@ use Rattle.std.proofs.shelf.Tests.{and-from, and-parts, cases-lt, cond-false, l
 
 abbrev pub apart-by : Band → Use → Band → Use → Bool
 apart-by x a y b = apart (first-of x a) (size-of x a) (first-of y b) (size-of y b)
-
--- sector i lies in the area
-abbrev pub In : Band → Use → ℕ → Type 0
-In x a i = (first-of x a ≤ i) × (i < first-of x a + size-of x a)
 
 never-both : (a m c n i : ℕ) → apart a m c n ≡ true → (a ≤ i) × (i < a + m) → (c ≤ i) × (i < c + n) → ⊥
 never-both a m c n i t p q =
@@ -52,7 +48,7 @@ pair-from x y t f =
     let area : (a : Use) → area-apart (first-of x a) (size-of x a) y ≡ true = λ a. and-from _ _ (f a Map) (and-from _ _ (f a Alternative) (f a Prime)) in
     and-from _ _ t (and-from _ _ (area Map) (and-from _ _ (area Alternative) (area Prime)))
 
-pub pair-separate : (x y : Band) → bands-apart x y ≡ true → (a b : Use) (i : ℕ) → In x a i → In y b i → ⊥
+pub pair-separate : (x y : Band) → bands-apart x y ≡ true → (a b : Use) (i : ℕ) → In-area x a i → In-area y b i → ⊥
 pair-separate x y t a b i p q = never-both _ _ _ _ i (pair-by x y t a b) p q
 
 inside-parts : (end a k : ℕ) → inside end a k ≡ true → (64 ≤ a) × (a + k ≤ end)
@@ -97,7 +93,7 @@ primes-inside end x s h =
     inside-parts end (x .first) (x .homes) (sym (cond-false (overflow x) _ _ (ne-eqb _ _ n)) ∙ s .primes)
 
 -- a sector lies in one area of a band at most
-pub one-area : (end : ℕ) (x : Band) → Stands end x → (a b : Use) (i : ℕ) → In x a i → In x b i → a ≡ b
+pub one-area : (end : ℕ) (x : Band) → Stands end x → (a b : Use) (i : ℕ) → In-area x a i → In-area x b i → a ≡ b
 one-area end x s Map Map i p q = refl
 one-area end x s Map Alternative i p q = absurd (never-both _ _ _ _ i (s .map-spares) p q)
 one-area end x s Map Prime i p q = absurd (never-both _ _ _ _ i (s .map-primes) p q)

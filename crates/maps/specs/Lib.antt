@@ -2,3 +2,4 @@ pub mod Places
 pub mod Sheets
 pub mod Rules
 pub mod Reading
+pub mod Homes

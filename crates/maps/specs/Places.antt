@@ -1,5 +1,5 @@
 -- Where the homes, the alternatives and the maps of a layout lie.
-use Prim.Native.Nat.{ℕ, _+_, _-_, _*_, _%_}
+use Prim.Native.Nat.{ℕ, _+_, _-_, _*_, _%_, _≤_, _<_}
 use mathlib.Core.Bool.{Bool, true, cond, _&&_, _||_}
 use mathlib.Core.List.{List, [], _∷_}
 use lib.Dec.{eqb, leb, ltb}
@@ -23,6 +23,10 @@ abbrev pub size-of : Band → Use → ℕ
 size-of x Map = 128
 size-of x Alternative = 128
 size-of x Prime = x .homes
+
+-- sector i lies in the area
+abbrev pub In-area : Band → Use → ℕ → Type 0
+In-area x a i = (first-of x a ≤ i) × (i < first-of x a + size-of x a)
 
 -- what stands in the places of bands that are not in use
 abbrev pub no-band : Band

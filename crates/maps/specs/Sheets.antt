@@ -1,10 +1,10 @@
 -- The bytes of a layout sheet: the layout that they give, and those that a layout is written in.
-use Prim.Native.Nat.{ℕ, _+_, _-_, _*_, _/_, _%_}
+use Prim.Native.Nat.{ℕ, _+_, _-_, _*_, _/_, _%_, _≤_, _<_}
 use mathlib.Core.Bool.{Bool, cond, _&&_}
-use mathlib.Core.List.{List, [], _∷_, _++_, map}
+use mathlib.Core.List.{List, map}
 use lib.Dec.{eqb, leb, ltb}
 use lib.ListN.{getD}
-use Rattle.maps.specs.Places.{no-band, overflow}
+use Rattle.maps.specs.Places.{band-of, no-band, overflow}
 use Rattle.maps.specs.declared.bands.Band.{Band}
 use Rattle.maps.specs.declared.bands.Layout.{Layout}
 use Rattle.maps.specs.declared.bands.Use.{Use}
@@ -62,26 +62,39 @@ band-or-none d k = cond (ltb k (band-count d)) (band-at d k) no-band
 unfoldable pub layout-in : ℕ → List ℕ → Layout
 layout-in n d = record { last = n; count = band-count d; bands = map (band-or-none d) (counting 0 8) }
 
--- the track that begins with sector s, in two bytes
-abbrev pub two-bytes : ℕ → List ℕ
-two-bytes n = (n / 256) ∷ (n % 256) ∷ []
-
+-- the track that begins with sector s
 abbrev pub track-of : ℕ → ℕ
 track-of s = s / 32 - 2
 
--- the eight bytes of a band
-unfoldable pub entry : Band → List ℕ
-entry x =
-    (two-bytes (track-of (x .maps)) ++ two-bytes (track-of (x .spares)))
-    ++ (two-bytes (cond (overflow x) 65535 (track-of (x .first))) ++ two-bytes (cond (overflow x) 65535 (x .homes / 32)))
+-- the four numbers of a band's entry
+unfoldable pub entry-number : Band → ℕ → ℕ
+entry-number x i =
+    cond (eqb i 0) (track-of (x .maps))
+    (cond (eqb i 1) (track-of (x .spares))
+    (cond (overflow x) 65535
+    (cond (eqb i 2) (track-of (x .first)) (x .homes / 32))))
+
+-- byte j of the eight bytes of a band
+unfoldable pub entry-byte : Band → ℕ → ℕ
+entry-byte x j = cond (eqb (j % 2) 0) (entry-number x (j / 2) / 256) (entry-number x (j / 2) % 256)
 
 -- byte i of the sheet that a layout is written in: (00) (00), the number of bands, the bands, and then (FF)
 unfoldable pub sheet-byte : Layout → ℕ → ℕ
 sheet-byte l i =
     cond (ltb i 2) 0
     (cond (eqb i 2) (l .count)
-    (cond (ltb ((i - 3) / 8) (l .count)) (getD (entry (getD (l .bands) ((i - 3) / 8) no-band)) ((i - 3) % 8) 0) 255))
+    (cond (ltb ((i - 3) / 8) (l .count)) (entry-byte (band-of l ((i - 3) / 8)) ((i - 3) % 8)) 255))
 
 -- the sheet that a layout is written in
 unfoldable pub sheet-of : Layout → List ℕ
 sheet-of l = map (sheet-byte l) (counting 0 512)
+
+-- what is known of a band whose entry can be written
+pub record Writable (x : Band) : Type 0 where
+  pub map-low : 64 ≤ x .maps
+  pub map-high : x .maps < 640064
+  pub spares-low : 64 ≤ x .spares
+  pub spares-high : x .spares < 640064
+  pub prime-low : 1 ≤ x .homes → 64 ≤ x .first
+  pub prime-high : 1 ≤ x .homes → x .first < 640064
+  pub homes-high : x .homes ≤ 640064

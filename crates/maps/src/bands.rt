@@ -1,6 +1,6 @@
 // How a medium is divided: bands, each with its areas, given by sector numbers.
 ghost use mathlib.Core.Path.{_≡_};
-ghost use Prim.Native.Nat.{_+_};
+ghost use Prim.Native.Nat.{_+_, _<_, _≤_};
 ghost use Rattle.maps.specs.Places.{apart, inside, overflow};
 
 pub const MOST_BANDS: usize = 8;
@@ -106,6 +106,21 @@ impl Band {
             first: self.first,
             size: self.homes,
         }
+    }
+
+    pub(crate) fn home_count(self) -> u64
+        ensures value { λ r. ⌜ r ≡ self .homes ⌝ }
+        ensures small { λ r. ⌜ r ≤ 4294967295 ⌝ }
+    {
+        u64::from(self.homes)
+    }
+
+    // The home of the band's own block of that number.
+    pub(crate) fn home_at(self, block: u32) -> u32
+        requires { ⌜ self .first + block < 640064 ⌝ }
+        ensures { λ r. ⌜ r ≡ self .first + block ⌝ }
+    {
+        self.first + block
     }
 
     pub(crate) fn is_overflow(self) -> bool

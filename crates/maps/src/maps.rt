@@ -8,7 +8,9 @@ ghost use Rattle.maps.specs.Places.{band-formed, no-band, valid};
 use crate::bands::Layout;
 use format::Addressing;
 
+pub mod blocks;
 pub mod reading;
+pub mod writing;
 
 #[derive(Clone, Copy)]
 pub struct Maps {

@@ -96,7 +96,7 @@ pub(crate) fn homes_in(bands: &[Band]) -> u64
 {
     let mut homes = 0;
     for band in bands {
-        homes += u64::from(band.homes);
+        homes += band.home_count();
     }
     homes
 }

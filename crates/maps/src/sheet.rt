@@ -2,7 +2,9 @@
 ghost use mathlib.Core.Path.{_≡_};
 ghost use Prim.Native.Nat.{ℕ, _+_, _*_, _<_, _≤_};
 ghost use lib.ListN.{getD, length};
-ghost use Rattle.maps.specs.Sheets.{band-at, band-or-none, first-sector, identified, layout-in, two-at};
+ghost use mathlib.Core.Bool.{true};
+ghost use Rattle.maps.specs.Places.{valid};
+ghost use Rattle.maps.specs.Sheets.{Writable, band-at, band-or-none, entry-byte, entry-number, first-sector, identified, layout-in, sheet-byte, track-of, two-at};
 use crate::bands::Band;
 use crate::bands::Layout;
 use crate::bands::MOST_BANDS;
@@ -11,6 +13,7 @@ use crate::bands::SECTORS_PER_TRACK;
 use crate::maps::Maps;
 use crate::maps::MapsAddressing;
 use format::Address;
+use format::address_of;
 use format::number_of;
 use medium::MOST_SECTORS;
 
@@ -24,6 +27,9 @@ const COUNT_AT: usize = 2;
 const ENTRIES_AT: usize = 3;
 
 const ENTRY_BYTES: usize = 8;
+
+// What stands behind the last entry.
+pub(crate) const FILLER: u8 = 0xFF;
 
 // What stands in an overflow band in place of the first prime track and of the number of prime tracks.
 const NO_PRIME: u16 = 0xFFFF;
@@ -103,4 +109,65 @@ pub(crate) fn layout_in(last: u32, sheet: &[u8]) -> Layout
         bands[k] = band_or_none(sheet, k);
     }
     Layout { last, count, bands }
+}
+
+// The track that begins with a sector.
+pub(crate) fn track_of(sector: u32) -> u16
+    requires { ⌜ 64 ≤ sector ⌝ ∗ ⌜ sector < 640064 ⌝ }
+    ensures { λ r. ⌜ r ≡ track-of sector ⌝ }
+{
+    match address_of::<Maps>(sector) {
+        Some(address) => address.track as u16,
+        None => 0,
+    }
+}
+
+// The four numbers of a band's entry.
+fn entry_number(band: Band, i: usize) -> u16
+    requires { ⌜ Writable band ⌝ }
+    ensures { λ r. ⌜ r ≡ entry-number band i ⌝ }
+{
+    if i == 0 {
+        track_of(band.maps)
+    } else if i == 1 {
+        track_of(band.spares)
+    } else if band.is_overflow() {
+        NO_PRIME
+    } else if i == 2 {
+        track_of(band.first)
+    } else {
+        (band.homes / SECTORS_PER_TRACK) as u16
+    }
+}
+
+// The byte `j` of the eight of a band's entry: of each number the most significant byte first.
+fn entry_byte(band: Band, j: usize) -> u8
+    requires { ⌜ Writable band ⌝ }
+    ensures { λ r. ⌜ r ≡ entry-byte band j ⌝ }
+{
+    let number = entry_number(band, j / 2);
+    if j % 2 == 0 {
+        (number / 256) as u8
+    } else {
+        (number % 256) as u8
+    }
+}
+
+// The byte `at` of the sheet of a valid layout.
+pub(crate) fn sheet_byte(layout: &Layout, at: usize) -> u8
+    requires { ⌜ valid (now layout) ≡ true ⌝ ∗ ⌜ length (now layout .bands) ≡ 8 ⌝ }
+    ensures { λ r. ⌜ r ≡ sheet-byte (now (layout .entry)) at ⌝ }
+{
+    if at < COUNT_AT {
+        return IDENTIFIER[at];
+    }
+    if at == COUNT_AT {
+        return layout.count as u8;
+    }
+    let k = (at - ENTRIES_AT) / ENTRY_BYTES;
+    if k < layout.count as usize {
+        entry_byte(layout.bands[k], (at - ENTRIES_AT) % ENTRY_BYTES)
+    } else {
+        FILLER
+    }
 }

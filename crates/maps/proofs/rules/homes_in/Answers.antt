@@ -6,7 +6,7 @@ use Rattle.maps.proofs.rules.homes_in.Needs as need
 pub loop-band-again : need.loop-band-again
 loop-band-again c =
     let step = at-drop-more block-count (c .args .bands .now) (c .loop-band .band-index) no-band (c .loop-band-test .taken) in
-    (omega (arith, step, c .loop-band .inv .0), omega (arith, c .loop-band .inv .1))
+    (omega (arith, step, c .loop-band .inv .0, c .home-count-homes .ensures .value), omega (arith, c .loop-band .inv .1, c .home-count-homes .ensures .small))
 
 pub returns : need.returns
 returns c =
