@@ -128,6 +128,10 @@ pub finding-first : (l : Layout) (b : ℕ) → b < blocks l → Finding l b 0 b
 unfolding blocks
 finding-first l b h = record { same = refl; less = h }
 
+pub last-low : (l : Layout) → valid l ≡ true → 8 ≤ l .last
+unfolding valid
+last-low l kept = leb-true _ _ (and-parts (leb 8 (l .last)) (leb (l .last) 19999) (and-parts (leb 8 (l .last) && leb (l .last) 19999) _ kept .0) .0)
+
 module _ (l : Layout) (kept : valid l ≡ true) (eight : length (l .bands) ≡ 8) where
   -- what a valid layout keeps
   pub record Laid : Type 0 where

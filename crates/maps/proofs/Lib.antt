@@ -3,3 +3,4 @@ mod Standing
 mod Ruled
 mod Told
 mod Found
+mod Written
