@@ -31,10 +31,10 @@ own (x ∷ xs) b h =
     ⊎-elim
     (λ (l : b < x .homes). let e = home-here x xs b l in (0, omega arith, (omega arith, omega arith)))
     (λ (l : x .homes ≤ b).
-        let o = own xs (b - x .homes) (omega arith) in
-        let e = home-later x xs b l in
-        let w = o .1 in
-        (suc (o .0), omega arith, subst (In-area (getD xs (o .0) no-band) Prime) (sym e) (o .2)))
+    let o = own xs (b - x .homes) (omega arith) in
+    let e = home-later x xs b l in
+    let w = o .1 in
+    (suc (o .0), omega arith, subst (In-area (getD xs (o .0) no-band) Prime) (sym e) (o .2)))
     (cases-lt b (x .homes))
 
 -- every prime sector is the home of a block
@@ -60,10 +60,10 @@ module _ (end : ℕ) where
       let x-some : overflow x ≡ false = ne-eqb _ _ (λ e. omega arith) in
       let y-some : overflow y ≡ false = ne-eqb _ _ (λ e. omega arith) in
       let less : x .first < y .first =
-          ⊎-elim
-          (λ u. absurd (both-ways _ x-some u))
-          (λ u. ⊎-elim (λ v. absurd (both-ways _ y-some v)) (λ v. ltb-true _ _ v) (or-cases (overflow y) _ u))
-          (or-cases (overflow x) _ (pair-rises x y t)) in
+      ⊎-elim
+      (λ u. absurd (both-ways _ x-some u))
+      (λ u. ⊎-elim (λ v. absurd (both-ways _ y-some v)) (λ v. ltb-true _ _ v) (or-cases (overflow y) _ u))
+      (or-cases (overflow x) _ (pair-rises x y t)) in
       ⊎-elim
       (λ u. let le : x .first + x .homes ≤ y .first = leb-true _ _ u in omega arith)
       (λ u. absurd (let le : y .first + y .homes ≤ x .first = leb-true _ _ u in omega arith))
@@ -78,20 +78,20 @@ module _ (end : ℕ) where
       ⊎-elim
       (λ (p : c < x .homes). let e = home-here x xs b (omega arith) in let f = home-here x xs c p in omega arith)
       (λ (p : x .homes ≤ c).
-          let f = home-later x xs c p in
-          ⊎-elim
-          (λ (q : b < x .homes).
-              let e = home-here x xs b q in
-              let o = own xs (c - x .homes) (omega arith) in
-              let w = o .1 in
-              let two = two-apart end (x ∷ xs) t 0 (suc (o .0)) (omega arith) (omega arith) in
-              let le = behind x (getD xs (o .0) no-band) two (omega arith) (home-in xs (c - x .homes)) (o .2) in
-              omega arith)
-          (λ (q : x .homes ≤ b).
-              let e = home-later x xs b q in
-              let r = rises xs (rest-stands x xs t) (b - x .homes) (c - x .homes) (omega arith) (omega arith) in
-              omega arith)
-          (cases-lt b (x .homes)))
+      let f = home-later x xs c p in
+      ⊎-elim
+      (λ (q : b < x .homes).
+      let e = home-here x xs b q in
+      let o = own xs (c - x .homes) (omega arith) in
+      let w = o .1 in
+      let two = two-apart end (x ∷ xs) t 0 (suc (o .0)) (omega arith) (omega arith) in
+      let le = behind x (getD xs (o .0) no-band) two (omega arith) (home-in xs (c - x .homes)) (o .2) in
+      omega arith)
+      (λ (q : x .homes ≤ b).
+      let e = home-later x xs b q in
+      let r = rises xs (rest-stands x xs t) (b - x .homes) (c - x .homes) (omega arith) (omega arith) in
+      omega arith)
+      (cases-lt b (x .homes)))
       (cases-lt c (x .homes))
 
   -- a sector lies in one area at most
@@ -100,8 +100,8 @@ module _ (end : ℕ) where
       ⊎-elim
       (λ (e : k ≡ j). one-area end (getD bs k no-band) (stands end _ (each-stands end bs t k h)) a b i p (subst (λ n. In-area (getD bs n no-band) b i) (sym e) q))
       (⊎-elim
-        (λ (l : k < j). absurd (pair-separate (getD bs k no-band) (getD bs j no-band) (two-apart end bs t k j l m) a b i p q))
-        (λ (l : j < k). absurd (pair-separate (getD bs j no-band) (getD bs k no-band) (two-apart end bs t j k l h) b a i q p)))
+      (λ (l : k < j). absurd (pair-separate (getD bs k no-band) (getD bs j no-band) (two-apart end bs t k j l m) a b i p q))
+      (λ (l : j < k). absurd (pair-separate (getD bs j no-band) (getD bs k no-band) (two-apart end bs t j k l h) b a i q p)))
       (cases-order k j)
 
   homes-end : (bs : List Band) → bands-stand end bs ≡ true → (k : ℕ) → k < length bs → getD bs k no-band .homes ≤ end

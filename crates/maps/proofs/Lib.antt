@@ -4,3 +4,4 @@ mod Ruled
 mod Told
 mod Found
 mod Written
+mod Listed

@@ -96,14 +96,14 @@ module _ (n : ℕ) (d : List ℕ) (small : n ≤ 19999) where
       ⊎-elim
       (λ o. absurd (let z : tracks-of d k Prime ≡ 0 = cond-true (overflow-entry d k) 0 (prime-tracks d k) o in omega arith))
       (λ o.
-          let tr : tracks-of d k Prime ≡ prime-tracks d k = cond-false (overflow-entry d k) 0 (prime-tracks d k) o in
-          let hs = prime-homes k o in
-          let e = prime-first k o in
-          let p = primes-inside (sectors-for n) (band-at d k) s (omega arith) in
-          let hi = p .1 in
-          let near : first-track d k Prime ≤ 19999 = first-low (first-track d k Prime) (32 * prime-tracks d k) (omega arith) (omega arith) in
-          let f = first-near (first-track d k Prime) near in
-          record { first = e ∙ f; size = hs ∙ ap (λ t. 32 * t) (sym tr); end = omega arith })
+      let tr : tracks-of d k Prime ≡ prime-tracks d k = cond-false (overflow-entry d k) 0 (prime-tracks d k) o in
+      let hs = prime-homes k o in
+      let e = prime-first k o in
+      let p = primes-inside (sectors-for n) (band-at d k) s (omega arith) in
+      let hi = p .1 in
+      let near : first-track d k Prime ≤ 19999 = first-low (first-track d k Prime) (32 * prime-tracks d k) (omega arith) (omega arith) in
+      let f = first-near (first-track d k Prime) near in
+      record { first = e ∙ f; size = hs ∙ ap (λ t. 32 * t) (sym tr); end = omega arith })
       (cases-bool (overflow-entry d k))
 
   -- a track of an area is a sector of it
@@ -134,8 +134,8 @@ module _ (n : ℕ) (d : List ℕ) (small : n ≤ 19999) where
         ⊎-elim
         (λ (e : k ≡ j). (e, one-area _ (band-at d k) (each k (l .band)) a b (32 * (t + 2)) (in-band k a t l) (subst (λ i. In-area (band-at d i) b (32 * (t + 2))) (sym e) (in-band j b t m))))
         (⊎-elim
-          (λ (h : k < j). absurd (pair-separate (band-at d k) (band-at d j) (two k j h (m .band)) a b (32 * (t + 2)) (in-band k a t l) (in-band j b t m)))
-          (λ (h : j < k). absurd (pair-separate (band-at d j) (band-at d k) (two j k h (l .band)) b a (32 * (t + 2)) (in-band j b t m) (in-band k a t l))))
+        (λ (h : k < j). absurd (pair-separate (band-at d k) (band-at d j) (two k j h (m .band)) a b (32 * (t + 2)) (in-band k a t l) (in-band j b t m)))
+        (λ (h : j < k). absurd (pair-separate (band-at d j) (band-at d k) (two j k h (l .band)) b a (32 * (t + 2)) (in-band j b t m) (in-band k a t l))))
         (cases-order k j)
 
     some-track-rule : (k : ℕ) → Has-prime d k → 1 ≤ prime-tracks d k
@@ -143,12 +143,12 @@ module _ (n : ℕ) (d : List ℕ) (small : n ≤ 19999) where
         ⊎-elim
         (λ (p : 0 < prime-tracks d k). p)
         (λ (z : prime-tracks d k ≤ 0).
-            let hs = prime-homes k (h .1) in
-            let f = prime-first k (h .1) in
-            let low = first-some (first-track d k Prime) in
-            let none : band-at d k .homes ≡ 0 = omega arith in
-            let zero-first : band-at d k .first ≡ 0 = eqb-true _ _ (sym (cond-true (overflow (band-at d k)) _ _ (eq-eqb _ _ none)) ∙ each k (h .0) .primes) in
-            absurd (omega arith))
+        let hs = prime-homes k (h .1) in
+        let f = prime-first k (h .1) in
+        let low = first-some (first-track d k Prime) in
+        let none : band-at d k .homes ≡ 0 = omega arith in
+        let zero-first : band-at d k .first ≡ 0 = eqb-true _ _ (sym (cond-true (overflow (band-at d k)) _ _ (eq-eqb _ _ none)) ∙ each k (h .0) .primes) in
+        absurd (omega arith))
         (cases-lt 0 (prime-tracks d k))
 
     prime-area : (k : ℕ) → Has-prime d k → Area-at k Prime
@@ -163,10 +163,10 @@ module _ (n : ℕ) (d : List ℕ) (small : n ≤ 19999) where
         let fk = prime-area k h .first in
         let fj = prime-area j m .first in
         let less : band-at d k .first < band-at d j .first =
-            ⊎-elim
-            (λ u. absurd (both-ways _ (some k h) u))
-            (λ u. ⊎-elim (λ v. absurd (both-ways _ (some j m) v)) (λ v. ltb-true _ _ v) (or-cases (overflow (band-at d j)) _ u))
-            (or-cases (overflow (band-at d k)) _ (pair-rises (band-at d k) (band-at d j) (two k j l (m .0)))) in
+        ⊎-elim
+        (λ u. absurd (both-ways _ (some k h) u))
+        (λ u. ⊎-elim (λ v. absurd (both-ways _ (some j m) v)) (λ v. ltb-true _ _ v) (or-cases (overflow (band-at d j)) _ u))
+        (or-cases (overflow (band-at d k)) _ (pair-rises (band-at d k) (band-at d j) (two k j l (m .0)))) in
         omega arith
 
   -- what the test passes keeps the rules
@@ -183,9 +183,9 @@ module _ (n : ℕ) (d : List ℕ) (small : n ≤ 19999) where
       let few : band-count d ≤ 8 = leb-true _ _ (cs .1) in
       let many = used-many n d few in
       let each : (k : ℕ) → k < band-count d → Stands (sectors-for n) (band-at d k) =
-          λ k l. stands _ _ (ap (band-stands (sectors-for n)) (sym (band-used n d k few l)) ∙ each-stands (sectors-for n) bs (e .1) k (omega arith)) in
+      λ k l. stands _ _ (ap (band-stands (sectors-for n)) (sym (band-used n d k few l)) ∙ each-stands (sectors-for n) bs (e .1) k (omega arith)) in
       let two : (k j : ℕ) → k < j → j < band-count d → bands-apart (band-at d k) (band-at d j) ≡ true =
-          λ k j l m. ap (λ x. bands-apart x (band-at d j)) (sym (band-used n d k few (omega arith))) ∙ ap (bands-apart (getD bs k no-band)) (sym (band-used n d j few m)) ∙ two-apart (sectors-for n) bs (e .1) k j l (omega arith) in
+      λ k j l m. ap (λ x. bands-apart x (band-at d j)) (sym (band-used n d k few (omega arith))) ∙ ap (bands-apart (getD bs k no-band)) (sym (band-used n d j few m)) ∙ two-apart (sectors-for n) bs (e .1) k j l (omega arith) in
       let home = some-home bs (leb-true _ _ (e .0)) in
       let within = home .1 in
       let at-home : home .0 < band-count d = omega arith in
@@ -246,22 +246,22 @@ module _ (n : ℕ) (d : List ℕ) (small : n ≤ 19999) where
         let qs = q .size in
         ⊎-elim
         (λ (l : first-track d k a < first-track d j b + tracks-of d j b).
-            ⊎-elim
-            (λ (o : first-track d j b < first-track d k a + tracks-of d k a).
-                ⊎-elim
-                (λ (u : first-track d k a < first-track d j b).
-                    let here : Lies-in d k a (first-track d j b) = record { band = h; from = omega arith; before = o } in
-                    let there : Lies-in d j b (first-track d j b) = record { band = m; from = omega arith; before = omega arith } in
-                    let same = r .disjoint k j a b (first-track d j b) here there in
-                    absurd (other (same .0) (same .1)))
-                (λ (u : first-track d j b ≤ first-track d k a).
-                    let here : Lies-in d k a (first-track d k a) = record { band = h; from = omega arith; before = omega arith } in
-                    let there : Lies-in d j b (first-track d k a) = record { band = m; from = u; before = l } in
-                    let same = r .disjoint k j a b (first-track d k a) here there in
-                    absurd (other (same .0) (same .1)))
-                (cases-lt (first-track d k a) (first-track d j b)))
-            (λ (o : first-track d k a + tracks-of d k a ≤ first-track d j b). before (first-of (band-at d k) a) (size-of (band-at d k) a) (first-of (band-at d j) b) (size-of (band-at d j) b) (omega arith))
-            (cases-lt (first-track d j b) (first-track d k a + tracks-of d k a)))
+        ⊎-elim
+        (λ (o : first-track d j b < first-track d k a + tracks-of d k a).
+        ⊎-elim
+        (λ (u : first-track d k a < first-track d j b).
+        let here : Lies-in d k a (first-track d j b) = record { band = h; from = omega arith; before = o } in
+        let there : Lies-in d j b (first-track d j b) = record { band = m; from = omega arith; before = omega arith } in
+        let same = r .disjoint k j a b (first-track d j b) here there in
+        absurd (other (same .0) (same .1)))
+        (λ (u : first-track d j b ≤ first-track d k a).
+        let here : Lies-in d k a (first-track d k a) = record { band = h; from = omega arith; before = omega arith } in
+        let there : Lies-in d j b (first-track d k a) = record { band = m; from = u; before = l } in
+        let same = r .disjoint k j a b (first-track d k a) here there in
+        absurd (other (same .0) (same .1)))
+        (cases-lt (first-track d k a) (first-track d j b)))
+        (λ (o : first-track d k a + tracks-of d k a ≤ first-track d j b). before (first-of (band-at d k) a) (size-of (band-at d k) a) (first-of (band-at d j) b) (size-of (band-at d j) b) (omega arith))
+        (cases-lt (first-track d j b) (first-track d k a + tracks-of d k a)))
         (λ (l : first-track d j b + tracks-of d j b ≤ first-track d k a). behind (first-of (band-at d k) a) (size-of (band-at d k) a) (first-of (band-at d j) b) (size-of (band-at d j) b) (omega arith))
         (cases-lt (first-track d k a) (first-track d j b + tracks-of d j b))
 
@@ -269,10 +269,10 @@ module _ (n : ℕ) (d : List ℕ) (small : n ≤ 19999) where
     areas-apart k j a b h m other =
         ⊎-elim
         (λ some.
-            ⊎-elim
-            (λ more. tracks-apart k j a b h m other (kept-area k a h some) (kept-area j b m more) some more)
-            (λ none. let z = none-there j b m none in let f = z .0 in let s = z .1 in behind (first-of (band-at d k) a) (size-of (band-at d k) a) (first-of (band-at d j) b) (size-of (band-at d j) b) (omega arith))
-            (cases-lt 0 (tracks-of d j b)))
+        ⊎-elim
+        (λ more. tracks-apart k j a b h m other (kept-area k a h some) (kept-area j b m more) some more)
+        (λ none. let z = none-there j b m none in let f = z .0 in let s = z .1 in behind (first-of (band-at d k) a) (size-of (band-at d k) a) (first-of (band-at d j) b) (size-of (band-at d j) b) (omega arith))
+        (cases-lt 0 (tracks-of d j b)))
         (λ none. let z = none-there k a h none in let f = z .0 in let s = z .1 in before (first-of (band-at d k) a) (size-of (band-at d k) a) (first-of (band-at d j) b) (size-of (band-at d j) b) (omega arith))
         (cases-lt 0 (tracks-of d k a))
 
@@ -289,10 +289,10 @@ module _ (n : ℕ) (d : List ℕ) (small : n ≤ 19999) where
         ⊎-elim
         (λ o. let z = no-prime k o in cond-true (overflow (band-at d k)) _ _ (eq-eqb _ _ (z .1)) ∙ eq-eqb _ _ (z .0))
         (λ o.
-            let c = prime-count k o in
-            let s = r .some-track k (h, o) in
-            let hs = prime-homes k o in
-            cond-false (overflow (band-at d k)) _ _ (ne-eqb _ _ (λ e. omega arith)) ∙ area-inside k Prime h (omega arith))
+        let c = prime-count k o in
+        let s = r .some-track k (h, o) in
+        let hs = prime-homes k o in
+        cond-false (overflow (band-at d k)) _ _ (ne-eqb _ _ (λ e. omega arith)) ∙ area-inside k Prime h (omega arith))
         (cases-bool (overflow-entry d k))
 
     band-kept : (k : ℕ) → k < band-count d → band-stands (sectors-for n) (band-at d k) ≡ true
@@ -308,22 +308,22 @@ module _ (n : ℕ) (d : List ℕ) (small : n ≤ 19999) where
         let h : k < band-count d = omega arith in
         let over : (i : ℕ) → overflow-entry d i ≡ true → overflow (band-at d i) ≡ true = λ i o. eq-eqb _ _ (no-prime i o .1) in
         let rises : rises-to (band-at d k) (band-at d j) ≡ true =
-            ⊎-elim
-            (λ o. or-left _ _ (over k o))
-            (λ o. or-right _ _
-                (⊎-elim
-                  (λ u. or-left _ _ (over j u))
-                  (λ u.
-                      let less = r .rising k j (h, o) (m, u) l in
-                      let sk = r .some-track k (h, o) in
-                      let sj = r .some-track j (m, u) in
-                      let ck = prime-count k o in
-                      let cj = prime-count j u in
-                      let fk = kept-area k Prime h (omega arith) .first in
-                      let fj = kept-area j Prime m (omega arith) .first in
-                      or-right (overflow (band-at d j)) (ltb (band-at d k .first) (band-at d j .first)) (lt-ltb (band-at d k .first) (band-at d j .first) (omega arith)))
-                  (cases-bool (overflow-entry d j))))
-            (cases-bool (overflow-entry d k)) in
+        ⊎-elim
+        (λ o. or-left _ _ (over k o))
+        (λ o. or-right _ _
+        (⊎-elim
+        (λ u. or-left _ _ (over j u))
+        (λ u.
+        let less = r .rising k j (h, o) (m, u) l in
+        let sk = r .some-track k (h, o) in
+        let sj = r .some-track j (m, u) in
+        let ck = prime-count k o in
+        let cj = prime-count j u in
+        let fk = kept-area k Prime h (omega arith) .first in
+        let fj = kept-area j Prime m (omega arith) .first in
+        or-right (overflow (band-at d j)) (ltb (band-at d k .first) (band-at d j .first)) (lt-ltb (band-at d k .first) (band-at d j .first) (omega arith)))
+        (cases-bool (overflow-entry d j))))
+        (cases-bool (overflow-entry d k)) in
         pair-from (band-at d k) (band-at d j) rises (λ a b. areas-apart k j a b h m (λ e _. omega arith))
 
     -- what keeps the rules passes the test
@@ -334,9 +334,9 @@ module _ (n : ℕ) (d : List ℕ) (small : n ≤ 19999) where
         let few = r .few-bands in
         let many = used-many n d few in
         let stand : bands-stand (sectors-for n) bs ≡ true =
-            all-stand (sectors-for n) bs
-            (λ k h. ap (band-stands (sectors-for n)) (band-used n d k few (omega arith)) ∙ band-kept k (omega arith))
-            (λ k j l m. ap (λ x. bands-apart x (getD bs j no-band)) (band-used n d k few (omega arith)) ∙ ap (bands-apart (band-at d k)) (band-used n d j few (omega arith)) ∙ two-kept k j l (omega arith)) in
+        all-stand (sectors-for n) bs
+        (λ k h. ap (band-stands (sectors-for n)) (band-used n d k few (omega arith)) ∙ band-kept k (omega arith))
+        (λ k j l m. ap (λ x. bands-apart x (getD bs j no-band)) (band-used n d k few (omega arith)) ∙ ap (bands-apart (band-at d k)) (band-used n d j few (omega arith)) ∙ two-kept k j l (omega arith)) in
         let i = r .some-prime .0 in
         let p : Has-prime d i = r .some-prime .1 in
         let s = r .some-track i p in

@@ -224,8 +224,8 @@ module _ (l : Layout) (kept : valid l ≡ true) (eight : length (l .bands) ≡ 8
   layout-back =
       let e = count-back in
       let bands : map (band-or-none d) (counting 0 8) ≡ l .bands =
-          ext-getD no-band _ _ (length-map-counting (band-or-none d) 0 8 ∙ sym eight)
-          (λ k h. getD-map-counting (band-or-none d) 0 8 k k no-band h (omega arith) ∙ place-back k) in
+      ext-getD no-band _ _ (length-map-counting (band-or-none d) 0 8 ∙ sym eight)
+      (λ k h. getD-map-counting (band-or-none d) 0 8 k k no-band h (omega arith) ∙ place-back k) in
       same-layout (l .last) (band-count d) (map (band-or-none d) (counting 0 8)) (l .count) (l .bands) e bands
 
   pub identified-back : identified d ≡ true

@@ -3,3 +3,4 @@ pub mod Sheets
 pub mod Rules
 pub mod Reading
 pub mod Homes
+pub mod Areas

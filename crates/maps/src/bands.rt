@@ -7,6 +7,9 @@ pub const MOST_BANDS: usize = 8;
 
 pub(crate) const SECTORS_PER_TRACK: u32 = 32;
 
+// The tracks -2 and -1.
+pub(crate) const TRACKS_BEFORE_ZERO: u32 = 2;
+
 // How many tracks there are up to the last one, besides its number: -2, -1 and 0.
 pub(crate) const TRACKS_BEFORE_END: u32 = 3;
 

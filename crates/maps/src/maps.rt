@@ -9,6 +9,7 @@ use crate::bands::Layout;
 use format::Addressing;
 
 pub mod blocks;
+pub mod listing;
 pub mod reading;
 pub mod writing;
 

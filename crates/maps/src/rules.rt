@@ -23,8 +23,7 @@ pub(crate) fn band_stands(end: u32, band: Band) -> bool
     let map = band.map_area();
     let spares = band.alternative_area();
     (map.is_inside(end) & spares.is_inside(end))
-        & (primes_stand
-            & (map.is_apart(spares) & (map.is_apart(primes) & spares.is_apart(primes))))
+        & (primes_stand & (map.is_apart(spares) & (map.is_apart(primes) & spares.is_apart(primes))))
 }
 
 // Whether an area has no sector of the band.

@@ -11,10 +11,10 @@ unfolding band-stands
 returns c =
     let x = c .args .band in
     let primes : c .if-is-overflow .primes-stand ≡ cond (overflow x) (eqb (x .first) 0) (inside (c .args .end) (x .first) (x .homes)) =
-        elim (c .if-is-overflow .came) [
-          | then-is-overflow w ↦ w .primes-stand-is ∙ sym (cond-true (overflow x) _ _ (sym (w .if-is-overflow .ensures tt)))
-          | else-is-overflow w ↦
-              let e : w .is-inside-primes-stand .result ≡ inside (c .args .end) (x .first) (x .homes) = cc in
-              w .primes-stand-is ∙ e ∙ sym (cond-false (overflow x) _ _ (sym (w .if-is-overflow .ensures tt)))
-        ] in
+    elim (c .if-is-overflow .came) [
+      | then-is-overflow w ↦ w .primes-stand-is ∙ sym (cond-true (overflow x) _ _ (sym (w .if-is-overflow .ensures tt)))
+      | else-is-overflow w ↦
+          let e : w .is-inside-primes-stand .result ≡ inside (c .args .end) (x .first) (x .homes) = cc in
+          w .primes-stand-is ∙ e ∙ sym (cond-false (overflow x) _ _ (sym (w .if-is-overflow .ensures tt)))
+    ] in
     cc
