@@ -13,11 +13,11 @@ pub(crate) const TRACKS_BEFORE_ZERO: u32 = 2;
 // How many tracks there are up to the last one, besides its number: -2, -1 and 0.
 pub(crate) const TRACKS_BEFORE_END: u32 = 3;
 
-// A map area and an alternative area have four tracks of 32 sectors.
-pub(crate) const AREA_SECTORS: u32 = 128;
+// A map area and an alternative area have four tracks.
+pub(crate) const AREA_SECTORS: u32 = 4 * SECTORS_PER_TRACK;
 
 // Track 0 begins here; the tracks -2 and -1 hold no area.
-const FIRST_SECTOR: u32 = 64;
+const FIRST_SECTOR: u32 = TRACKS_BEFORE_ZERO * SECTORS_PER_TRACK;
 
 // What an area is used for.
 #[derive(Clone, Copy, PartialEq, Eq, Debug)]
@@ -41,7 +41,7 @@ pub struct Band {
 pub struct Layout {
     pub last: u32,
     pub count: u32,
-    pub bands: [Band; 8],
+    pub bands: [Band; MOST_BANDS],
 }
 
 pub(crate) const NO_BAND: Band = Band {

@@ -5,6 +5,7 @@ ghost use mathlib.Core.Bool.{true};
 ghost use mathlib.Core.Path.{_≡_};
 ghost use Prim.Native.Nat.{ℕ, _+_};
 ghost use Rattle.maps.specs.Places.{band-formed, no-band, valid};
+use crate::bands;
 use crate::bands::Layout;
 use format::Addressing;
 
@@ -22,7 +23,7 @@ pub struct Maps {
 }
 
 pub impl Addressing for Maps as MapsAddressing {
-    const SECTORS_PER_TRACK: u32 = 32;
+    const SECTORS_PER_TRACK: u32 = bands::SECTORS_PER_TRACK;
 
     const FIRST_TRACK: i32 = -2;
 

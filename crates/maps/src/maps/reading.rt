@@ -16,8 +16,10 @@ use medium::Layer;
 use medium::MOST_SECTORS;
 use medium::Refusal;
 
-// The sectors of the tracks -2 to 8.
-const FEWEST_SECTORS: u32 = 352;
+// The lowest number that the last track of a medium may have.
+const LEAST_LAST_TRACK: u32 = 8;
+
+const FEWEST_SECTORS: u32 = SECTORS_PER_TRACK * (LEAST_LAST_TRACK + TRACKS_BEFORE_END);
 
 fn is_fitting(sectors: u32) -> bool
     ensures { λ r. ⌜ r ≡ fitting sectors ⌝ }

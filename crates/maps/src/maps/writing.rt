@@ -12,7 +12,7 @@ use crate::sheet::sheet_byte;
 
 impl Maps {
     // The sheet of this layout. Read for a medium of as many sectors, it gives the same layout.
-    pub fn write(&self) -> [u8; 512]
+    pub fn write(&self) -> [u8; SHEET_BYTES]
         ensures bytes { λ r. ⌜ r ≡ sheet-of (now (self .entry) .layout) ⌝ }
         ensures back { λ r. ⌜ reading-layout (sectors-for (now (self .entry) .layout .last)) r ≡ Ok (now (self .entry) .layout) ⌝ }
     {
