@@ -95,10 +95,10 @@ module _ (end : ℕ) where
       (cases-lt c (x .homes))
 
   -- a sector lies in one area at most
-  pub one-place : (bs : List Band) → bands-stand end bs ≡ true → (k j : ℕ) (a b : Use) (i : ℕ) → k < length bs → j < length bs → In-area (getD bs k no-band) a i → In-area (getD bs j no-band) b i → a ≡ b
+  pub one-place : (bs : List Band) → bands-stand end bs ≡ true → (k j : ℕ) (a b : Use) (i : ℕ) → k < length bs → j < length bs → In-area (getD bs k no-band) a i → In-area (getD bs j no-band) b i → (k ≡ j) × (a ≡ b)
   one-place bs t k j a b i h m p q =
       ⊎-elim
-      (λ (e : k ≡ j). one-area end (getD bs k no-band) (stands end _ (each-stands end bs t k h)) a b i p (subst (λ n. In-area (getD bs n no-band) b i) (sym e) q))
+      (λ (e : k ≡ j). (e, one-area end (getD bs k no-band) (stands end _ (each-stands end bs t k h)) a b i p (subst (λ n. In-area (getD bs n no-band) b i) (sym e) q)))
       (⊎-elim
       (λ (l : k < j). absurd (pair-separate (getD bs k no-band) (getD bs j no-band) (two-apart end bs t k j l m) a b i p q))
       (λ (l : j < k). absurd (pair-separate (getD bs j no-band) (getD bs k no-band) (two-apart end bs t j k l h) b a i q p)))
@@ -191,7 +191,7 @@ module _ (l : Layout) (kept : valid l ≡ true) (eight : length (l .bands) ≡ 8
         only-prime = λ b k a h m p.
             let o = own (bands-of l) b h in
             let g = laid .long in
-            one-place (sectors-for (l .last)) (bands-of l) (laid .stand) k (o .0) a Prime (home-in (bands-of l) b) (omega arith) (o .1) (subst (λ x. In-area x a (home-in (bands-of l) b)) (sym (used k m)) p) (o .2);
+            one-place (sectors-for (l .last)) (bands-of l) (laid .stand) k (o .0) a Prime (home-in (bands-of l) b) (omega arith) (o .1) (subst (λ x. In-area x a (home-in (bands-of l) b)) (sym (used k m)) p) (o .2) .1;
         every-prime = λ k i h p. let g = laid .long in onto (bands-of l) k i (omega arith) (subst (λ x. In-area x Prime i) (sym (used k h)) p);
       }
 

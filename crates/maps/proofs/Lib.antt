@@ -5,3 +5,4 @@ mod Told
 mod Found
 mod Written
 mod Listed
+mod Tracks

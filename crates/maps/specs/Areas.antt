@@ -1,15 +1,17 @@
 -- The areas of a layout, in rising order of tracks.
-use Prim.Native.Nat.{ℕ, zero, suc, _+_, _-_, _*_, _/_, _≤_}
+use Prim.Native.Nat.{ℕ, zero, suc, _+_, _-_, _*_, _/_, _≤_, _<_}
 use mathlib.Core.Bool.{cond, not, _&&_}
-use mathlib.Core.List.{List, [], _∷_, _++_}
+use mathlib.Core.List.{List, [], _∷_, _++_, List·Memᴰ, map}
+use mathlib.Core.Path.{_≡_}
 use lib.Dec.{eqb}
 use lib.ListN.{getD}
-use Rattle.maps.specs.Places.{bands-of, no-band, overflow, size-of}
+use Rattle.maps.specs.Places.{band-of, bands-of, first-of, no-band, overflow, size-of}
 use Rattle.maps.specs.declared.areas.Area.{Area}
 use Rattle.maps.specs.declared.bands.Band.{Band}
 use Rattle.maps.specs.declared.bands.Layout.{Layout}
 use Rattle.maps.specs.declared.bands.Use.{Use}
 use Rattle.maps.specs.declared.bands.Use.the-variants.{Map, Alternative, Prime}
+use Rattle.medium.specs.Order.{Rising}
 use Rattle.std.specs.declared.option.Option.{Option}
 use Rattle.std.specs.declared.option.Option.the-variants.{Some, None}
 
@@ -52,3 +54,16 @@ areas-before l (suc t) = areas-before l t ++ as-list (begun 1 (bands-of l) t)
 -- all areas of a layout
 unfoldable pub all-areas : Layout → List Area
 all-areas l = areas-before l (l .last + 1)
+
+-- an area of the layout, told by its band, its use, and its first and last track
+pub record Area-told (l : Layout) (r : Area) : Type 0 where
+  pub some-band : 1 ≤ r .band
+  pub known-band : r .band ≤ l .count
+  pub begins : first-of (band-of l (r .band - 1)) (r .used) ≡ 32 * (r .first + 2)
+  pub ends : first-of (band-of l (r .band - 1)) (r .used) + size-of (band-of l (r .band - 1)) (r .used) ≡ 32 * (r .last + 3)
+
+-- the list has the areas of the layout and no other, in rising order
+pub record Areas-listed (l : Layout) (rs : List Area) : Type 0 where
+  pub each : (r : Area) → List·Memᴰ r rs → Area-told l r
+  pub every : (k : ℕ) (a : Use) → k < l .count → 1 ≤ size-of (band-of l k) a → (r : Area) × List·Memᴰ r rs × (r .band ≡ k + 1) × (r .used ≡ a)
+  pub rising : Rising (map (λ r. r .first) rs)
