@@ -3,6 +3,8 @@ use mathlib.Core.Path.{_≡_, sym, ap, _∙_}
 use native.Mathlib.Omega.{arith}
 use Rattle.maps.proofs.Found.{Laid, laid}
 use Rattle.maps.proofs.Listed.{homes-few, listed-none, listed-some}
+use Rattle.maps.proofs.Tracks.{areas-listed}
+use Rattle.std.specs.Of.Vec.{vec-items}
 use Rattle.maps.specs.Areas.{all-areas, areas-before}
 use Rattle.maps.proofs.maps.Maps.areas.Needs as need
 
@@ -24,8 +26,10 @@ begun-requires c κs =
 pub returns : need.returns
 unfolding all-areas
 returns c =
-    let same : c .loop-track .track ≡ c .args .self .now .layout .last + 1 = omega arith in
-    c .loop-track .inv ∙ ap (areas-before (c .args .self .now .layout)) same
+    let m = c .args .self .now in
+    let same : c .loop-track .track ≡ m .layout .last + 1 = omega arith in
+    let list : vec-items (c .loop-track .areas) ≡ all-areas (m .layout) = c .loop-track .inv ∙ ap (areas-before (m .layout)) same in
+    record { list = list; areas = areas-listed (m .layout) (m .kept) (m .eight) (m .formed) (vec-items (c .loop-track .areas)) list }
 
 pub loop-track-again-in-rest : need.loop-track-again-in-rest
 loop-track-again-in-rest c = listed-none (c .args .self .now .layout) (c .loop-track .track) (sym (c .in-rest .is) ∙ c .begun .ensures) _ (c .loop-track .inv)
