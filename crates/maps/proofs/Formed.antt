@@ -1,24 +1,23 @@
 -- The layout that a sheet gives, place by place.
-use Prim.Native.Nat.{ℕ, zero, suc, _+_, _-_, _*_, _/_, _%_, _<_, _≤_}
+use Prim.Native.Nat.{ℕ, _+_, _*_, _%_, _<_, _≤_}
 use mathlib.Core.Path.{_≡_, refl, sym, ap, subst, _∙_}
-use mathlib.Core.Bool.{Bool, true, false, cond, _&&_, _||_}
+use mathlib.Core.Bool.{true, false, _&&_}
 use mathlib.Core.List.{List, map}
 use mathlib.Core.Logic.{⊎-elim}
 use native.Mathlib.Omega.{arith}
 use lib.Dec.{eqb, leb, ltb}
-use lib.ListN.{length, getD, take}
+use lib.ListN.{length, getD}
 use Rattle.format.specs.Laws.{format-fault}
-use Rattle.maps.specs.Places.{band-formed, bands-of, no-band, unused, valid, whole-tracks}
-use Rattle.maps.specs.Reading.{checked, fitting, given-layout, last-track, reading-layout}
+use Rattle.maps.specs.Places.{band-formed, bands-of, no-band, valid, whole-tracks}
+use Rattle.maps.specs.Reading.{fitting, last-track, reading-layout}
 use Rattle.maps.specs.Sheets.{band-at, band-count, band-or-none, first-sector, first-track, identified, layout-in, overflow-entry, prime-tracks}
-use Rattle.maps.specs.declared.bands.Band.{Band}
 use Rattle.maps.specs.declared.bands.Layout.{Layout}
 use Rattle.maps.specs.declared.bands.Use.the-variants.{Prime}
 use Rattle.medium.specs.declared.faults.Fault.{Fault}
 use Rattle.medium.specs.declared.faults.Refusal.the-variants.{WrongSectorCount, BrokenLayout}
 use Rattle.std.proofs.shelf.Counted.{getD-map-counting, length-map-counting, take-map-counting}
 use Rattle.std.proofs.shelf.Lists.{getD-past, getD-take}
-use Rattle.std.proofs.shelf.Tests.{and-from, and-parts, cases-bool, cases-lt, cond-both, cond-false, cond-true, eq-eqb, eqb-true, le-leb, le-ltb, leb-true, lt-ltb, or-left, or-right}
+use Rattle.std.proofs.shelf.Tests.{and-from, and-parts, cases-lt, cond-both, cond-false, cond-true, eq-eqb, eqb-true, le-leb, leb-true, lt-ltb, or-left, or-right}
 use Rattle.std.specs.Iters.{counting}
 use Rattle.std.specs.declared.result.Result.{Result}
 use Rattle.std.specs.declared.result.Result.the-variants.{Ok, Err}

@@ -1,21 +1,21 @@
 -- The homes of a layout that keeps the rules, and the loop that finds one.
 use Prim.Native.Nat.{ℕ, zero, suc, _+_, _-_, _*_, _<_, _≤_}
 use mathlib.Core.Path.{_≡_, refl, sym, ap, subst, _∙_}
-use mathlib.Core.Bool.{Bool, true, false, cond, _&&_, _||_}
+use mathlib.Core.Bool.{true, false, _&&_}
 use mathlib.Core.List.{List, [], _∷_}
-use mathlib.Core.Logic.{_⊎_, inl, inr, ⊎-elim}
+use mathlib.Core.Logic.{⊎-elim}
 use native.Mathlib.Omega.{arith}
-use lib.Dec.{eqb, leb, ltb}
-use lib.ListN.{length, getD, take, drop}
-use Rattle.maps.proofs.Standing.{Stands, each-stands, one-area, pair-by, pair-rises, pair-separate, primes-inside, stands, two-apart}
+use lib.Dec.{leb, ltb}
+use lib.ListN.{length, getD, drop}
+use Rattle.maps.proofs.Standing.{each-stands, one-area, pair-by, pair-rises, pair-separate, primes-inside, stands, two-apart}
 use Rattle.maps.specs.Homes.{Homes-placed}
-use Rattle.maps.specs.Places.{In-area, apart, band-of, band-stands, bands-apart, bands-of, bands-stand, block-count, blocks, home, home-in, no-band, overflow, rises-to, sectors-for, valid}
+use Rattle.maps.specs.Places.{In-area, band-of, band-stands, bands-apart, bands-of, bands-stand, block-count, blocks, home, home-in, no-band, overflow, sectors-for, valid}
 use Rattle.maps.specs.declared.bands.Band.{Band}
 use Rattle.maps.specs.declared.bands.Layout.{Layout}
 use Rattle.maps.specs.declared.bands.Use.{Use}
-use Rattle.maps.specs.declared.bands.Use.the-variants.{Map, Alternative, Prime}
+use Rattle.maps.specs.declared.bands.Use.the-variants.{Prime}
 use Rattle.std.proofs.shelf.Lists.{at-drop-all, drop-more, getD-take, length-take-le}
-use Rattle.std.proofs.shelf.Tests.{and-parts, both-ways, cases-bool, cases-lt, cases-order, cond-false, cond-true, le-ltb, leb-true, lt-ltb, ltb-false, ltb-true, ne-eqb, or-cases}
+use Rattle.std.proofs.shelf.Tests.{and-parts, both-ways, cases-lt, cases-order, cond-false, cond-true, le-ltb, leb-true, lt-ltb, ltb-true, ne-eqb, or-cases}
 
 -- the home of a block of the first band, and of a block of a later one
 home-here : (x : Band) (xs : List Band) (b : ℕ) → b < x .homes → home-in (x ∷ xs) b ≡ x .first + b

@@ -1,18 +1,17 @@
 -- The listing of areas, step by step.
-use Prim.Native.Nat.{ℕ, zero, suc, _+_, _-_, _*_, _/_, _<_, _≤_}
-use mathlib.Core.Path.{_≡_, refl, sym, ap, subst, _∙_}
-use mathlib.Core.Bool.{Bool, true, false, cond, not, _&&_}
+use Prim.Native.Nat.{ℕ, _+_, _*_, _<_, _≤_}
+use mathlib.Core.Path.{_≡_, refl, sym, ap, _∙_}
+use mathlib.Core.Bool.{true, false, cond, not, _&&_}
 use mathlib.Core.List.{List, [], _∷_, _++_}
 use mathlib.Core.Logic.{⊎-elim}
 use native.Mathlib.Numerals.{add-one}
 use native.Mathlib.Omega.{arith}
 use lib.Dec.{eqb}
-use lib.ListN.{getD, length, take}
-use Rattle.maps.proofs.Found.{Laid, laid}
+use lib.ListN.{length}
+use Rattle.maps.proofs.Found.{laid}
 use Rattle.maps.proofs.Written.{writable}
 use Rattle.maps.specs.Areas.{Homes-few, area-from, areas-before, as-list, begun, begun-in, or-else}
-use Rattle.maps.specs.Places.{band-of, bands-of, no-band, overflow, valid}
-use Rattle.maps.specs.Sheets.{Writable}
+use Rattle.maps.specs.Places.{bands-of, no-band, overflow, valid}
 use Rattle.maps.specs.declared.areas.Area.{Area}
 use Rattle.maps.specs.declared.bands.Band.{Band}
 use Rattle.maps.specs.declared.bands.Layout.{Layout}

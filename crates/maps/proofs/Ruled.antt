@@ -1,18 +1,17 @@
 -- The test of a layout decides the rules.
-use Prim.Native.Nat.{ℕ, zero, suc, _+_, _-_, _*_, _<_, _≤_}
+use Prim.Native.Nat.{ℕ, _+_, _-_, _*_, _<_, _≤_}
 use mathlib.Core.Path.{_≡_, refl, sym, ap, subst, _∙_}
-use mathlib.Core.Bool.{Bool, true, false, cond, _&&_, _||_}
+use mathlib.Core.Bool.{true, false, cond, _&&_}
 use mathlib.Core.List.{List}
-use mathlib.Core.Logic.{_⊎_, inl, inr, ⊎-elim}
+use mathlib.Core.Logic.{⊎-elim}
 use native.Mathlib.Omega.{arith}
 use lib.Dec.{eqb, leb, ltb}
-use lib.ListN.{length, getD}
+use lib.ListN.{getD}
 use Rattle.maps.proofs.Formed.{band-used, used-many}
 use Rattle.maps.proofs.Standing.{Stands, all-stand, apart-by, each-stands, homes-within, one-area, pair-from, pair-rises, pair-separate, primes-inside, some-home, stands, two-apart}
 use Rattle.maps.specs.Places.{In-area, apart, band-stands, bands-apart, bands-of, bands-stand, block-count, first-of, inside, no-band, overflow, rises-to, sectors-for, size-of, valid}
 use Rattle.maps.specs.Rules.{Has-prime, Layout-rules, Lies-in, tracks-of}
 use Rattle.maps.specs.Sheets.{band-at, band-count, first-sector, first-track, identified, layout-in, overflow-entry, prime-tracks}
-use Rattle.maps.specs.declared.bands.Band.{Band}
 use Rattle.maps.specs.declared.bands.Use.{Use}
 use Rattle.maps.specs.declared.bands.Use.the-variants.{Map, Alternative, Prime}
 use Rattle.std.proofs.shelf.Tests.{and-from, and-parts, both-ways, cases-bool, cases-lt, cases-order, cond-both, cond-false, cond-true, eq-eqb, eqb-true, le-leb, leb-true, lt-ltb, ltb-true, ne-eqb, or-cases, or-left, or-right}

@@ -1,11 +1,11 @@
 -- Bands that stand, by their places.
 use Prim.Native.Nat.{ℕ, zero, suc, _+_, _<_, _≤_}
-use mathlib.Core.Path.{_≡_, refl, sym, ap, _∙_}
-use mathlib.Core.Bool.{Bool, true, false, cond, _&&_, _||_}
+use mathlib.Core.Path.{_≡_, refl, sym, _∙_}
+use mathlib.Core.Bool.{Bool, true, cond, _&&_}
 use mathlib.Core.List.{List, [], _∷_}
 use mathlib.Core.Logic.{⊎-elim}
 use native.Mathlib.Omega.{arith}
-use lib.Dec.{eqb, leb, ltb}
+use lib.Dec.{eqb, leb}
 use lib.ListN.{length, getD}
 use Rattle.maps.specs.Places.{In-area, apart, apart-from-all, area-apart, band-stands, bands-apart, bands-stand, block-count, first-of, inside, no-band, overflow, rises-to, size-of}
 use Rattle.maps.specs.declared.bands.Band.{Band}

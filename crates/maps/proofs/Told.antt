@@ -1,24 +1,22 @@
 -- What reading answers, in words.
-use Prim.Native.Nat.{ℕ, _+_, _*_, _<_, _≤_}
+use Prim.Native.Nat.{ℕ, _<_, _≤_}
 use mathlib.Core.Path.{_≡_, refl, sym, ap, subst, _∙_}
-use mathlib.Core.Bool.{Bool, true, false, _&&_}
+use mathlib.Core.Bool.{true, false, _&&_}
 use mathlib.Core.List.{List, map}
-use mathlib.Core.Logic.{_⊎_, inl, inr, ⊎-elim}
+use mathlib.Core.Logic.{inl, inr, ⊎-elim}
 use native.Mathlib.Omega.{arith}
 use lib.Dec.{ltb}
-use lib.ListN.{getD}
 use Rattle.format.specs.Laws.{format-fault}
 use Rattle.maps.proofs.Formed.{band-in, fitting-tracks, tracks-fitting}
-use Rattle.maps.proofs.Ruled.{Area-at, kept-area, no-prime, rules-kept, rules-pass}
+use Rattle.maps.proofs.Ruled.{kept-area, no-prime, rules-kept, rules-pass}
 use Rattle.maps.specs.Places.{band-of, first-of, no-band, size-of, valid}
 use Rattle.maps.specs.Reading.{Last-track, Layout-given, Layout-refused, fitting, last-track}
-use Rattle.maps.specs.Rules.{Layout-rules, tracks-of}
+use Rattle.maps.specs.Rules.{Layout-rules}
 use Rattle.maps.specs.Sheets.{band-at, band-count, band-or-none, identified, layout-in}
 use Rattle.maps.specs.declared.bands.Layout.{Layout}
 use Rattle.medium.specs.declared.faults.Fault.{Fault}
 use Rattle.medium.specs.declared.faults.Refusal.the-variants.{WrongSectorCount, BrokenLayout}
 use Rattle.std.proofs.shelf.Lists.{getD-past}
-use Rattle.std.proofs.shelf.Counted.{length-map-counting}
 use Rattle.std.proofs.shelf.Tests.{both-ways, cases-lt, cond-false, cond-true, le-ltb, lt-ltb}
 use Rattle.std.specs.Iters.{counting}
 

@@ -1,13 +1,13 @@
 -- The list of areas has every area of the layout and no other, in rising order.
 use Prim.Native.Nat.{ℕ, zero, suc, _+_, _-_, _*_, _/_, _%_, _<_, _≤_}
 use mathlib.Core.Path.{_≡_, refl, sym, ap, subst, _∙_}
-use mathlib.Core.Bool.{Bool, true, false, not, _&&_, _||_}
+use mathlib.Core.Bool.{true, false, not, _&&_, _||_}
 use mathlib.Core.List.{List, [], _∷_, _++_, List·Memᴰ, List·Memᴰ·append-cases, List·Memᴰ·cases-cons, List·Memᴰ·head, List·Memᴰ·not-nil, Memᴰ·append-left, Memᴰ·append-right, map}
-use mathlib.Core.Logic.{_⊎_, inl, inr, ⊎-elim}
+use mathlib.Core.Logic.{⊎-elim}
 use native.Mathlib.Omega.{arith}
 use lib.Dec.{eqb, ltb}
 use lib.ListN.{getD, length}
-use Rattle.maps.proofs.Found.{Laid, laid, one-place}
+use Rattle.maps.proofs.Found.{laid, one-place}
 use Rattle.maps.proofs.Listed.{begun-alternative, begun-map, begun-none, begun-prime}
 use Rattle.maps.proofs.Standing.{Stands, each-stands, primes-inside, stands}
 use Rattle.maps.specs.Areas.{Area-told, Areas-listed, all-areas, area-from, areas-before, as-list, begun, begun-in, or-else}
@@ -19,7 +19,7 @@ use Rattle.maps.specs.declared.bands.Use.{Use}
 use Rattle.maps.specs.declared.bands.Use.the-variants.{Map, Alternative, Prime}
 use Rattle.medium.specs.Order.{Rising}
 use Rattle.std.proofs.shelf.Lists.{append-nil, getD-append-left, getD-push, getD-take, length-push, map-push}
-use Rattle.std.proofs.shelf.Tests.{and-from, and-parts, cases-bool, cases-eq, cases-lt, eq-eqb, eqb-true, ne-eqb, not-from-false, not-true}
+use Rattle.std.proofs.shelf.Tests.{and-from, and-parts, cases-bool, cases-eq, cases-lt, eq-eqb, eqb-true, not-from-false, not-true}
 use Rattle.std.specs.declared.option.Option.{Option}
 use Rattle.std.specs.declared.option.Option.the-variants.{Some, None}
 
@@ -52,18 +52,18 @@ module _ (k : ℕ) (x : Band) (t : ℕ) where
       ⊎-elim
       (λ (m : x .maps ≡ 32 * (t + 2)). begun-as Map r (m, omega arith) (begun-map k x t m) f)
       (λ (m : x .maps ≡ 32 * (t + 2) → ⊥).
-          ⊎-elim
-          (λ (s : x .spares ≡ 32 * (t + 2)). begun-as Alternative r (s, omega arith) (begun-alternative k x t m s) f)
-          (λ (s : x .spares ≡ 32 * (t + 2) → ⊥).
-              ⊎-elim
-              (λ p.
-                  let two = and-parts (not (overflow x)) (eqb (x .first) (32 * (t + 2))) p in
-                  let some : overflow x ≡ false = not-true (overflow x) (two .0) in
-                  let homes : 1 ≤ x .homes = ⊎-elim (λ (h : 0 < x .homes). h) (λ (z : x .homes ≤ 0). absurd (let n : x .homes ≡ 0 = omega arith in let b : true ≡ false = sym (eq-eqb _ _ n) ∙ some in let w : _≡_ {A = ℕ} 0 1 = cc in omega arith)) (cases-lt 0 (x .homes)) in
-                  begun-as Prime r (eqb-true _ _ (two .1), homes) (begun-prime k x t m s p) f)
-              (λ p. absurd (some-none r (begun-in k x t) f (begun-none k x t m s p)))
-              (cases-bool (not (overflow x) && eqb (x .first) (32 * (t + 2)))))
-          (cases-eq (x .spares) (32 * (t + 2))))
+      ⊎-elim
+      (λ (s : x .spares ≡ 32 * (t + 2)). begun-as Alternative r (s, omega arith) (begun-alternative k x t m s) f)
+      (λ (s : x .spares ≡ 32 * (t + 2) → ⊥).
+      ⊎-elim
+      (λ p.
+      let two = and-parts (not (overflow x)) (eqb (x .first) (32 * (t + 2))) p in
+      let some : overflow x ≡ false = not-true (overflow x) (two .0) in
+      let homes : 1 ≤ x .homes = ⊎-elim (λ (h : 0 < x .homes). h) (λ (z : x .homes ≤ 0). absurd (let n : x .homes ≡ 0 = omega arith in let b : true ≡ false = sym (eq-eqb _ _ n) ∙ some in let w : _≡_ {A = ℕ} 0 1 = cc in omega arith)) (cases-lt 0 (x .homes)) in
+      begun-as Prime r (eqb-true _ _ (two .1), homes) (begun-prime k x t m s p) f)
+      (λ p. absurd (some-none r (begun-in k x t) f (begun-none k x t m s p)))
+      (cases-bool (not (overflow x) && eqb (x .first) (32 * (t + 2)))))
+      (cases-eq (x .spares) (32 * (t + 2))))
       (cases-eq (x .maps) (32 * (t + 2)))
 
   in-none : (a : Use) → begun-in k x t ≡ None → Starts x a t → ⊥
@@ -71,10 +71,10 @@ module _ (k : ℕ) (x : Band) (t : ℕ) where
       ⊎-elim
       (λ (m : x .maps ≡ 32 * (t + 2)). some-none _ (begun-in k x t) (begun-map k x t m) f)
       (λ (m : x .maps ≡ 32 * (t + 2) → ⊥).
-          ⊎-elim
-          (λ (u : x .spares ≡ 32 * (t + 2)). some-none _ (begun-in k x t) (begun-alternative k x t m u) f)
-          (λ (u : x .spares ≡ 32 * (t + 2) → ⊥). third a s m u)
-          (cases-eq (x .spares) (32 * (t + 2))))
+      ⊎-elim
+      (λ (u : x .spares ≡ 32 * (t + 2)). some-none _ (begun-in k x t) (begun-alternative k x t m u) f)
+      (λ (u : x .spares ≡ 32 * (t + 2) → ⊥). third a s m u)
+      (cases-eq (x .spares) (32 * (t + 2))))
       (cases-eq (x .maps) (32 * (t + 2)))
     where
       third : (b : Use) → Starts x b t → (x .maps ≡ 32 * (t + 2) → ⊥) → (x .spares ≡ 32 * (t + 2) → ⊥) → ⊥

@@ -1,14 +1,14 @@
 -- The bytes that a layout is written in, and what reading them gives.
 use Prim.Native.Nat.{ℕ, _+_, _-_, _*_, _/_, _%_, _<_, _≤_}
-use mathlib.Core.Path.{_≡_, refl, sym, ap, subst, _∙_}
-use mathlib.Core.Bool.{Bool, true, false, cond, _&&_, _||_}
+use mathlib.Core.Path.{_≡_, refl, sym, ap, _∙_}
+use mathlib.Core.Bool.{true, false, cond, _&&_, _||_}
 use mathlib.Core.List.{List, map}
-use mathlib.Core.Logic.{_⊎_, inl, inr, ⊎-elim}
+use mathlib.Core.Logic.{⊎-elim}
 use native.Mathlib.Omega.{arith}
 use lib.Dec.{eqb, leb, ltb}
 use lib.ListN.{length, getD}
 use Rattle.maps.proofs.Formed.{kept, tracks-fitting}
-use Rattle.maps.proofs.Found.{Laid, laid, last-low}
+use Rattle.maps.proofs.Found.{laid, last-low}
 use Rattle.maps.proofs.Standing.{Stands, each-stands, primes-inside, stands}
 use Rattle.maps.specs.Places.{band-formed, band-of, band-stands, bands-of, no-band, overflow, sectors-for, unused, valid, whole-tracks}
 use Rattle.maps.specs.Reading.{last-track, reading-layout}
@@ -20,7 +20,7 @@ use Rattle.std.proofs.shelf.Counted.{fill-by-all, getD-map-counting, length-map
 use Rattle.std.proofs.shelf.Lists.{ext-getD, getD-take}
 use Rattle.std.specs.Iters.{counting}
 use Rattle.std.specs.declared.result.Result.the-variants.{Ok}
-use Rattle.std.proofs.shelf.Tests.{and-from, and-parts, both-ways, cases-bool, cases-lt, cond-false, cond-true, eq-eqb, eqb-false, eqb-true, le-leb, le-ltb, lt-ltb, ltb-false, ne-eqb, or-cases}
+use Rattle.std.proofs.shelf.Tests.{and-from, and-parts, both-ways, cases-bool, cases-lt, cond-false, cond-true, eq-eqb, eqb-false, eqb-true, le-leb, le-ltb, lt-ltb, ne-eqb, or-cases}
 
 -- the numbers of an entry, by the place and the band
 pub number-maps : (x : Band) (i : ℕ) → i ≡ 0 → entry-number x i ≡ track-of (x .maps)

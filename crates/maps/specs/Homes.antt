@@ -1,5 +1,5 @@
 -- Where the homes of a layout lie.
-use Prim.Native.Nat.{ℕ, _*_, _+_, _<_, _≤_}
+use Prim.Native.Nat.{ℕ, _<_, _≤_}
 use mathlib.Core.Path.{_≡_}
 use Rattle.maps.specs.Places.{In-area, band-of, blocks, home, sectors-for}
 use Rattle.maps.specs.declared.bands.Layout.{Layout}

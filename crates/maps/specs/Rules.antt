@@ -1,5 +1,5 @@
 -- The rules of a layout, over the bytes of its sheet, for a medium whose last track is n.
-use Prim.Native.Nat.{ℕ, _+_, _*_, _≤_, _<_}
+use Prim.Native.Nat.{ℕ, _+_, _≤_, _<_}
 use mathlib.Core.Bool.{cond, false}
 use mathlib.Core.List.{List}
 use mathlib.Core.Path.{_≡_}

@@ -8,9 +8,12 @@ use crate::bands::Band;
 use crate::bands::SECTORS_PER_TRACK;
 use crate::bands::TRACKS_BEFORE_ZERO;
 use crate::bands::Use;
+use crate::bands::UseDebug;
+use crate::bands::UseEq;
+use crate::bands::UsePartialEq;
 
 // An area from its first track to its last. Bands are counted from 1.
-#[derive(Clone, Copy)]
+#[derive(Clone, Copy, PartialEq, Eq, Debug)]
 pub struct Area {
     pub first: u32,
     pub last: u32,

@@ -37,7 +37,7 @@ pub struct Band {
 }
 
 // The last track of the medium, and its bands. Behind the first `count` stands `NO_BAND`.
-#[derive(Clone, Copy, PartialEq, Eq, Debug)]
+#[derive(Clone, Copy, Debug)]
 pub struct Layout {
     pub last: u32,
     pub count: u32,

@@ -3,7 +3,7 @@ ghost use lib.IntN.{negsuc};
 ghost use lib.ListN.{getD, length};
 ghost use mathlib.Core.Bool.{true};
 ghost use mathlib.Core.Path.{_≡_};
-ghost use Prim.Native.Nat.{ℕ, _+_};
+ghost use Prim.Native.Nat.{ℕ};
 ghost use Rattle.maps.specs.Places.{band-formed, no-band, valid};
 use crate::bands;
 use crate::bands::Layout;

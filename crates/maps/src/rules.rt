@@ -1,6 +1,6 @@
 // The rules of a layout that concern its areas.
 ghost use mathlib.Core.Path.{_≡_};
-ghost use Prim.Native.Nat.{ℕ, _+_, _≤_};
+ghost use Prim.Native.Nat.{_+_, _≤_};
 ghost use lib.ListN.{length};
 ghost use Rattle.maps.specs.Places.{apart-from-all, area-apart, band-stands, bands-apart, bands-stand, block-count, rises-to, valid};
 use crate::bands::Band;

@@ -1,7 +1,7 @@
 // The 512 bytes of a layout sheet, read and written.
 ghost use mathlib.Core.Path.{_≡_};
-ghost use Prim.Native.Nat.{ℕ, _+_, _*_, _<_, _≤_};
-ghost use lib.ListN.{getD, length};
+ghost use Prim.Native.Nat.{_+_, _*_, _<_, _≤_};
+ghost use lib.ListN.{length};
 ghost use mathlib.Core.Bool.{true};
 ghost use Rattle.maps.specs.Places.{valid};
 ghost use Rattle.maps.specs.Sheets.{Writable, band-at, band-or-none, entry-byte, entry-number, first-sector, identified, layout-in, sheet-byte, track-of, two-at};

@@ -1,7 +1,6 @@
 // Reading a layout from its sheet.
 ghost use lib.ListN.{length};
 ghost use mathlib.Core.Path.{_≡_};
-ghost use Prim.Native.Nat.{ℕ};
 ghost use Rattle.format.specs.Laws.{format-fault};
 ghost use Rattle.maps.specs.Reading.{Layout-read, Layout-refused, fitting, layout-answer, reading-layout};
 ghost use Rattle.std.specs.Results.{Cases};

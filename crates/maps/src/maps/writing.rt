@@ -1,6 +1,5 @@
 // Writing a layout into its sheet.
 ghost use mathlib.Core.Path.{_≡_};
-ghost use Prim.Native.Nat.{ℕ};
 ghost use Rattle.maps.specs.Places.{sectors-for};
 ghost use Rattle.maps.specs.Reading.{reading-layout};
 ghost use Rattle.maps.specs.Sheets.{sheet-of};

@@ -1,6 +1,6 @@
 use Prim.Native.Nat.{_+_, _*_}
 use mathlib.Core.Bool.{not, _&&_}
-use mathlib.Core.Path.{_≡_, sym, ap, _∙_}
+use mathlib.Core.Path.{sym, ap, _∙_}
 use lib.Dec.{eqb}
 use Rattle.maps.proofs.Listed.{begun-alternative, begun-map, begun-none, begun-prime}
 use Rattle.std.specs.declared.option.Option.the-variants.{Some}

@@ -1,7 +1,7 @@
 use Prim.Native.Nat.{ℕ, _+_, _-_}
-use mathlib.Core.Bool.{Bool, _&&_, true, false}
+use mathlib.Core.Bool.{Bool, _&&_}
 use mathlib.Core.List.{List}
-use mathlib.Core.Path.{_≡_, refl, sym, ap, _∙_}
+use mathlib.Core.Path.{_≡_, sym, ap, _∙_}
 use lib.ListN.{drop, getD, length, take}
 use Rattle.std.proofs.shelf.Lists.{at-drop-all, at-drop-more, take-rest}
 use Rattle.std.proofs.shelf.Tests.{and-left}

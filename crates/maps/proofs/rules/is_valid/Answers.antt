@@ -1,4 +1,3 @@
-use Prim.Native.Nat.{_*_, _+_}
 use mathlib.Core.Bool.{Bool, _&&_, true, false}
 use mathlib.Core.Path.{_≡_, refl, sym, ap, _∙_}
 use native.Mathlib.Omega.{arith}

@@ -1,4 +1,4 @@
-use mathlib.Core.Path.{_≡_, sym, _∙_}
+use mathlib.Core.Path.{sym, _∙_}
 use native.Mathlib.Omega.{arith}
 use Rattle.maps.proofs.Written.{number-first, number-maps, number-none, number-spares, number-tracks}
 use Rattle.maps.proofs.sheet.entry_number.Needs as need

@@ -1,4 +1,4 @@
-use mathlib.Core.Path.{_≡_, sym, ap, _∙_}
+use mathlib.Core.Path.{sym, _∙_}
 use native.Mathlib.Omega.{arith}
 use Rattle.std.proofs.shelf.Lists.{getD-replicate}
 use Rattle.maps.proofs.Written.{bands-few, byte-count, byte-entry, byte-filler, byte-identifier, writable}

@@ -1,7 +1,7 @@
 use Prim.Native.Nat.{_+_}
 use mathlib.Core.Path.{_≡_, sym, ap, _∙_}
 use native.Mathlib.Omega.{arith}
-use Rattle.maps.proofs.Found.{Laid, laid}
+use Rattle.maps.proofs.Found.{laid}
 use Rattle.maps.proofs.Listed.{homes-few, listed-none, listed-some}
 use Rattle.maps.proofs.Tracks.{areas-listed}
 use Rattle.std.specs.Of.Vec.{vec-items}

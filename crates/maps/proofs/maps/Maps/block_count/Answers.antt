@@ -1,6 +1,5 @@
 use native.Mathlib.Omega.{arith}
-use mathlib.Core.Path.{_≡_}
-use Rattle.maps.proofs.Found.{Laid, blocks-few, homes-placed, laid}
+use Rattle.maps.proofs.Found.{blocks-few, homes-placed, laid}
 use Rattle.maps.specs.Places.{blocks}
 use Rattle.maps.proofs.maps.Maps.block_count.Needs as need
 

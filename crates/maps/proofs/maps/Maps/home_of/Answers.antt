@@ -1,6 +1,6 @@
 use native.Mathlib.Omega.{arith}
-use mathlib.Core.Path.{_≡_, _∙_}
-use Rattle.maps.proofs.Found.{Laid, finding-first, finding-fits, finding-here, finding-last, finding-next, homes-placed, laid}
+use mathlib.Core.Path.{_∙_}
+use Rattle.maps.proofs.Found.{finding-first, finding-fits, finding-here, finding-last, finding-next, homes-placed, laid}
 use Rattle.maps.proofs.maps.Maps.home_of.Needs as need
 
 pub loop-i-holds : need.loop-i-holds

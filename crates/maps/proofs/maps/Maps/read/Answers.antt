@@ -1,4 +1,4 @@
-use mathlib.Core.Bool.{Bool, _&&_, true, false}
+use mathlib.Core.Bool.{Bool, _&&_}
 use mathlib.Core.Path.{_≡_, _∙_}
 use Rattle.std.proofs.shelf.Tests.{and-parts}
 use Rattle.maps.proofs.Formed.{broken, kept, read-formed, read-laid, unfitting}
