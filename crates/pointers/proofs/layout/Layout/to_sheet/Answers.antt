@@ -1,0 +1,4 @@
+use Rattle.pointers.proofs.layout.Layout.to_sheet.Needs as need
+
+pub returns : need.returns
+returns c = ?

@@ -1,0 +1,4 @@
+use Rattle.pointers.proofs.sheet.is_marked.Needs as need
+
+pub returns : need.returns
+returns c = ?

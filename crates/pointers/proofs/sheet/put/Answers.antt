@@ -1,0 +1,4 @@
+use Rattle.pointers.proofs.sheet.put.Needs as need
+
+pub returns : need.returns
+returns c = ?
