@@ -1,7 +1,7 @@
 -- The two ways to name a sector: by a number from 0 on, and by a track and a place on it.
 use Prim.Native.Nat.{ℕ, _+_, _*_, _/_, _%_}
 use mathlib.Core.Path.{_≡_}
-use mathlib.Core.Bool.{Bool, cond, _&&_, not}
+use mathlib.Core.Bool.{cond}
 use lib.Dec.{leb, ltb}
 use lib.IntN.{ℤ, pos, natAbs, _+ℤ_, _-ℤ_}
 use lib.Signed.{ltZ}
@@ -9,13 +9,11 @@ use Rattle.format.specs.declared.addressing.Address.{Address}
 use Rattle.std.specs.declared.option.Option.{Option}
 use Rattle.std.specs.declared.option.Option.the-variants.{Some, None}
 
--- tracks run from the first to 19,999, and the places on a track from 0 to one less than there are
-abbrev pub exists : ℕ → ℤ → Address → Bool
-exists per first a = not (ltZ (a .track) first) && (not (ltZ (pos 19999) (a .track)) && ltb (a .sector) per)
-
--- track by track, from the first on
+-- the number of an address: tracks run from the first to 19,999, and the places on a track from 0 to one less than there are
 abbrev pub number-at : ℕ → ℤ → Address → Option ℕ
-number-at per first a = cond (exists per first a) (Some (natAbs (a .track -ℤ first) * per + a .sector)) None
+number-at per first a =
+    cond (ltZ (a .track) first) None
+    (cond (ltZ (pos 19999) (a .track)) None (cond (ltb (a .sector) per) (Some (natAbs (a .track -ℤ first) * per + a .sector)) None))
 
 abbrev pub last-index : ℤ → ℕ
 last-index first = natAbs (pos 19999 -ℤ first)

@@ -1,1 +1,3 @@
 pub mod Addresses
+pub mod Blocks
+pub mod Laws

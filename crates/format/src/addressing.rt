@@ -41,18 +41,36 @@ pub fn number_of<A: Addressing>(address: Address) -> Option<u32>
     ensures answer { λ r. ⌜ r ≡ number-at perTrack firstTrack address ⌝ }
     ensures undone { λ _. ⌜ Undo-each-other perTrack firstTrack ⌝ }
 {
-    let first = A::lowest_track();
-    let per = A::per_track();
-    if address.track < first || address.track > LAST_TRACK || address.sector >= per {
-        return None;
-    }
-    Some((address.track - first) as u32 * per + address.sector)
+    to_number::<A>(address)
 }
 
 // The address of a sector, if there is a sector of that number.
 pub fn address_of<A: Addressing>(number: u32) -> Option<Address>
     ensures answer { λ r. ⌜ r ≡ address-at perTrack firstTrack number ⌝ }
     ensures undone { λ _. ⌜ Undo-each-other perTrack firstTrack ⌝ }
+{
+    to_address::<A>(number)
+}
+
+fn to_number<A: Addressing>(address: Address) -> Option<u32>
+    ensures { λ r. ⌜ r ≡ number-at perTrack firstTrack address ⌝ }
+{
+    let first = A::lowest_track();
+    let per = A::per_track();
+    if address.track < first {
+        return None;
+    }
+    if address.track > LAST_TRACK {
+        return None;
+    }
+    if address.sector >= per {
+        return None;
+    }
+    Some((address.track - first) as u32 * per + address.sector)
+}
+
+fn to_address<A: Addressing>(number: u32) -> Option<Address>
+    ensures { λ r. ⌜ r ≡ address-at perTrack firstTrack number ⌝ }
 {
     let first = A::lowest_track();
     let per = A::per_track();
