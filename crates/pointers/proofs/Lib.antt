@@ -1,3 +1,5 @@
 pub mod Members
 pub mod Ruled
 pub mod Geometry
+pub mod Written
+pub mod Answered

@@ -4,9 +4,8 @@ use mathlib.Core.Bool.{cond, _&&_}
 use mathlib.Core.List.{List}
 use mathlib.Core.Logic.{_⊎_}
 use mathlib.Core.Path.{_≡_}
+use Rattle.format.specs.Laws.{format-fault}
 use Rattle.medium.specs.declared.faults.Fault.{Fault}
-use Rattle.medium.specs.declared.faults.Layer.the-variants.{Format}
-use Rattle.medium.specs.declared.faults.Refusal.{Refusal}
 use Rattle.medium.specs.declared.faults.Refusal.the-variants.{BrokenLayout, WrongSectorCount}
 use Rattle.pointers.specs.Places.{first-track}
 use Rattle.pointers.specs.Rules.{Layout-rules, Sized, fits-format, last-track, layout-valid}
@@ -16,14 +15,10 @@ use Rattle.pointers.specs.declared.pointers.Pointers.{Pointers}
 use Rattle.std.specs.declared.result.Result.{Result}
 use Rattle.std.specs.declared.result.Result.the-variants.{Ok, Err}
 
--- a refusal that the format finds, at no place in particular
-abbrev pub format-fault : Refusal → Fault
-format-fault why = record { refusal = why; layer = Format; place = 0 }
-
 -- the size is tried first, and then the rules
 abbrev pub sheet-read : ℕ → List ℕ → Result Layout Fault
 sheet-read p d =
-    cond (fits-format p) (cond (layout-valid (last-track p) (layout-in d) && marked (first-track (layout-in d)) d) (Ok (layout-in d)) (Err (format-fault BrokenLayout))) (Err (format-fault WrongSectorCount))
+    cond (fits-format p) (cond (layout-valid (last-track p) (layout-in d) && marked (first-track (layout-in d)) d) (Ok (layout-in d)) (Err (format-fault BrokenLayout 0))) (Err (format-fault WrongSectorCount 0))
 
 -- the layout alone of what was read
 abbrev pub layout-of : Result Pointers Fault → Result Layout Fault
@@ -43,5 +38,5 @@ pub record Sheet-read (p : ℕ) (d : List ℕ) (f : Pointers) : Type 0 where
 -- it was refused, by the first of these that holds
 abbrev pub Sheet-refused : ℕ → List ℕ → Fault → Type 0
 Sheet-refused p d e =
-    ((e ≡ format-fault WrongSectorCount) × ((n : ℕ) → Sized p n → ⊥))
-    ⊎ ((e ≡ format-fault BrokenLayout) × ((n : ℕ) × Sized p n × (Sheet-rules n d → ⊥)))
+    ((e ≡ format-fault WrongSectorCount 0) × ((n : ℕ) → Sized p n → ⊥))
+    ⊎ ((e ≡ format-fault BrokenLayout 0) × ((n : ℕ) × Sized p n × (Sheet-rules n d → ⊥)))

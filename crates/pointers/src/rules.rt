@@ -58,6 +58,9 @@ impl Layout {
         requires { ⌜ 2 ≤ last ⌝ }
         ensures { λ r. ⌜ r ≡ layout-valid last (now (self .entry)) ⌝ }
     {
-        self.are_counts_valid() && self.is_secondary_valid(last) && self.are_groups_valid(last)
+        if !self.are_counts_valid() {
+            return false;
+        }
+        self.is_secondary_valid(last) & self.are_groups_valid(last)
     }
 }

@@ -2,8 +2,9 @@
 ghost use mathlib.Core.Path.{_≡_};
 ghost use Prim.Native.Nat.{_+_, _*_, _≤_};
 ghost use lib.ListN.{length};
+ghost use Rattle.format.specs.Laws.{format-fault};
 ghost use Rattle.pointers.specs.Places.{first-track};
-ghost use Rattle.pointers.specs.Reading.{Sheet-read, Sheet-refused, format-fault, layout-of, sheet-read};
+ghost use Rattle.pointers.specs.Reading.{Sheet-read, Sheet-refused, layout-of, sheet-read};
 ghost use Rattle.pointers.specs.Rules.{fits-format, layout-valid};
 ghost use Rattle.pointers.specs.Sheets.{layout-in, marked, sheet-of};
 ghost use Rattle.std.specs.Results.{Cases};
@@ -18,7 +19,7 @@ use medium::Refusal;
 
 // A refusal that the format finds, at no place in particular.
 fn refused(refusal: Refusal) -> Fault
-    ensures { λ r. ⌜ r ≡ format-fault refusal ⌝ }
+    ensures { λ r. ⌜ r ≡ format-fault refusal 0 ⌝ }
 {
     Fault {
         refusal,
