@@ -3,6 +3,8 @@
 // The most spares that a layout may have, of all its groups and of the secondary area together.
 pub const MOST_SPARES: u32 = 1024;
 
+pub(crate) const SECTORS_A_TRACK: u32 = 31;
+
 // What stands for the first track of a secondary area where there is none.
 pub(crate) const NO_TRACK: u32 = 0xFFFF_FFFF;
 

@@ -4,8 +4,10 @@ pub mod layout;
 pub mod pointers;
 pub mod rules;
 pub mod sheet;
+pub mod tracks;
 
 pub use layout::Layout;
 pub use layout::MOST_SPARES;
 pub use pointers::Pointers;
 pub use sheet::SHEET_BYTES;
+pub use tracks::PointersAddressing;

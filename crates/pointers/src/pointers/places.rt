@@ -12,19 +12,12 @@ impl Pointers {
         self.layout.groups * self.layout.homes
     }
 
-    // The first sector of the data zone.
-    fn data_start(&self) -> u32
-        ensures { λ r. ⌜ r ≡ data-start (now (self .entry) .layout) ⌝ }
-    {
-        31 * self.layout.first_track()
-    }
-
     // The first sector of a group.
     pub(crate) fn group_start(&self, group: u32) -> u32
         requires { ⌜ group < now self .layout .groups ⌝ }
         ensures { λ r. ⌜ r ≡ data-start (now (self .entry) .layout) + group * width (now (self .entry) .layout) ⌝ }
     {
-        self.data_start() + group * (self.layout.homes + self.layout.spares)
+        self.layout.data_start() + group * (self.layout.homes + self.layout.spares)
     }
 
     // The sector in which a block comes to lie, if that is sound.

@@ -11,6 +11,7 @@ ghost use Rattle.std.specs.Results.{Cases};
 ghost use Rattle.std.specs.declared.result.Result.the-variants.{Ok};
 ghost use mathlib.Core.Bool.{_&&_};
 use crate::layout::Layout;
+use crate::layout::SECTORS_A_TRACK;
 use crate::pointers::Pointers;
 use crate::sheet::is_marked;
 use medium::Fault;
@@ -32,12 +33,12 @@ fn refused(refusal: Refusal) -> Fault
 fn fits_format(sectors: u32) -> bool
     ensures { λ r. ⌜ r ≡ fits-format sectors ⌝ }
 {
-    (sectors % 31 == 0) & ((31 * 7 <= sectors) & (sectors <= 31 * 20_000))
+    (sectors % SECTORS_A_TRACK == 0) & ((7 * SECTORS_A_TRACK <= sectors) & (sectors <= 20_000 * SECTORS_A_TRACK))
 }
 
 // Whether the layout that was read keeps the rules, and the bytes around it are as in every sheet.
 fn stands(layout: &Layout, last: u32, sheet: &[u8]) -> bool
-    requires { ⌜ length (now sheet) ≡ 512 ⌝ ∗ ⌜ 2 ≤ last ⌝ }
+    requires { ⌜ length (now sheet) ≡ 512 ⌝ ∗ ⌜ 2 ≤ last ⌝ ∗ ⌜ last ≤ 19999 ⌝ }
     ensures { λ r. ⌜ r ≡ (layout-valid last (now (layout .entry)) && marked (first-track (now (layout .entry))) (now (sheet .entry))) ⌝ }
 {
     layout.is_valid(last) && is_marked(sheet, layout.first_track() as u8)
@@ -53,7 +54,7 @@ impl Pointers {
         if !fits_format(sectors) {
             return Err(refused(Refusal::WrongSectorCount));
         }
-        let last = sectors / 31 - 1;
+        let last = sectors / SECTORS_A_TRACK - 1;
         let layout = Layout::in_sheet(sheet);
         if !stands(&layout, last, sheet) {
             return Err(refused(Refusal::BrokenLayout));

@@ -17,3 +17,6 @@ mul-result c = let h = below (c .args .self .now) (c .args .group) (c .pre) in l
 
 pub add-result-2 : need.add-result-2
 add-result-2 c = let h = below (c .args .self .now) (c .args .group) (c .pre) in let m = c .args .self .now .most in omega arith
+
+pub data-start-requires : need.data-start-requires
+data-start-requires c κs = let p = c .args .self .now in omega (arith, rules-of (p .last) (p .layout) (p .valid) .most-spares)
