@@ -12,6 +12,7 @@ use Rattle.pointers.proofs.Ruled.{rules-of}
 use Rattle.pointers.specs.Places.{Places-sound, Spare, blocks, data-start, first-track, groups-end, home, primaries, secondaries, width}
 use Rattle.pointers.specs.Rules.{Layout-rules, Secondary-area, Secondary-tracks, layout-valid}
 use Rattle.pointers.specs.declared.layout.Layout.{Layout}
+use Rattle.pointers.specs.declared.pointers.Pointers.{Pointers}
 use Rattle.std.proofs.shelf.Bits.{div-mul-add, mod-mul-add, div-below, mod-below, div-add-mod', mul-add-lt}
 use Rattle.std.proofs.shelf.Tests.{cases-bool, cond-true, cond-false, eq-eqb, ne-eqb, cases-eq}
 
@@ -149,3 +150,7 @@ module _ (n : ℕ) (l : Layout) (f : Layout-rules n l) where
 
   pub few-blocks : l .groups * l .homes ≤ 31 * (n - 2)
   few-blocks = let high = f .before-copies in omega (arith, mul-add (l .groups) (l .homes) (l .spares))
+
+-- the same, of a format on its medium
+pub group-below : (p : Pointers) (a : ℕ) → a < p .layout .groups → data-start (p .layout) + (a * width (p .layout) + width (p .layout)) ≤ 31 * (p .last - 2)
+group-below p a h = group-end (p .last) (p .layout) (rules-of (p .last) (p .layout) (p .valid)) a h

@@ -3,3 +3,4 @@ pub mod Ruled
 pub mod Geometry
 pub mod Written
 pub mod Answered
+pub mod Listing

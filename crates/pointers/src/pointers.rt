@@ -5,6 +5,7 @@ ghost use Prim.Native.Nat.{_≤_};
 ghost use Rattle.pointers.specs.Rules.{layout-valid};
 use crate::layout::Layout;
 
+pub mod listing;
 pub mod places;
 pub mod reading;
 

@@ -46,7 +46,7 @@ impl Layout {
     }
 
     // The first sector behind the groups.
-    fn groups_end(&self) -> u64
+    pub(crate) fn groups_end(&self) -> u64
         requires { ⌜ now self .groups ≤ 65535 ⌝ ∗ ⌜ now self .secondary ≤ 1024 ⌝ }
         ensures { λ r. ⌜ r ≡ groups-end (now (self .entry)) ⌝ }
     {

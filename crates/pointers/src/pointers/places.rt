@@ -1,7 +1,7 @@
 // Where the homes of blocks lie.
 ghost use mathlib.Core.Path.{_≡_};
 ghost use Prim.Native.Nat.{_+_, _*_, _<_};
-ghost use Rattle.pointers.specs.Places.{Places-sound, blocks, data-start, home, width};
+ghost use Rattle.pointers.specs.Places.{Places-sound, blocks, data-start, groups-end, home, width};
 use crate::pointers::Pointers;
 
 impl Pointers {
@@ -18,6 +18,13 @@ impl Pointers {
         ensures { λ r. ⌜ r ≡ data-start (now (self .entry) .layout) + group * width (now (self .entry) .layout) ⌝ }
     {
         self.layout.data_start() + group * (self.layout.homes + self.layout.spares)
+    }
+
+    // The first sector behind the groups.
+    pub(crate) fn groups_end(&self) -> u32
+        ensures { λ r. ⌜ r ≡ groups-end (now (self .entry) .layout) ⌝ }
+    {
+        self.layout.groups_end() as u32
     }
 
     // The sector in which a block comes to lie, if that is sound.

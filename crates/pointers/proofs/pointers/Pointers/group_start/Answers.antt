@@ -1,22 +1,16 @@
-use Prim.Native.Nat.{ℕ, _+_, _*_, _-_, _≤_, _<_}
 use native.Mathlib.Omega.{arith}
-use Rattle.pointers.proofs.Geometry.{group-end}
+use Rattle.pointers.proofs.Geometry.{group-below}
 use Rattle.pointers.proofs.Ruled.{rules-of}
-use Rattle.pointers.specs.Places.{data-start, width}
-use Rattle.pointers.specs.declared.pointers.Pointers.{Pointers}
 use Rattle.pointers.proofs.pointers.Pointers.group_start.Needs as need
 
-below : (p : Pointers) (a : ℕ) → a < p .layout .groups → data-start (p .layout) + (a * width (p .layout) + width (p .layout)) ≤ 31 * (p .last - 2)
-below p a h = group-end (p .last) (p .layout) (rules-of (p .last) (p .layout) (p .valid)) a h
-
 pub add-result : need.add-result
-add-result c = let h = below (c .args .self .now) (c .args .group) (c .pre) in let m = c .args .self .now .most in omega arith
+add-result c = let h = group-below (c .args .self .now) (c .args .group) (c .pre) in let m = c .args .self .now .most in omega arith
 
 pub mul-result : need.mul-result
-mul-result c = let h = below (c .args .self .now) (c .args .group) (c .pre) in let m = c .args .self .now .most in omega arith
+mul-result c = let h = group-below (c .args .self .now) (c .args .group) (c .pre) in let m = c .args .self .now .most in omega arith
 
 pub add-result-2 : need.add-result-2
-add-result-2 c = let h = below (c .args .self .now) (c .args .group) (c .pre) in let m = c .args .self .now .most in omega arith
+add-result-2 c = let h = group-below (c .args .self .now) (c .args .group) (c .pre) in let m = c .args .self .now .most in omega arith
 
 pub data-start-requires : need.data-start-requires
 data-start-requires c κs = let p = c .args .self .now in omega (arith, rules-of (p .last) (p .layout) (p .valid) .most-spares)
