@@ -34,12 +34,12 @@ module _ (n : ℕ) (l : Layout) (f : Layout-rules n l) where
   area-at : Area
   area-at =
       let some : (k : ℕ) × Secondary-tracks n l k → Area =
-          λ h. let k = h .0 in
-          let w : l .secondary ≡ 31 * k = h .1 .whole in
-          let one : 1 ≤ k = h .1 .some in
-          let front : l .start ≡ 3 → Area = λ e. inr (inl (omega arith, start-behind l k e w ∙ sym (ap (λ x. 93 + x) w))) in
-          let behind : (l .start ≡ 3 → ⊥) → l .start + k + 2 ≡ n → Area = λ d e. inr (inr (f .before-secondary ((λ z. omega arith), d), omega arith)) in
-          ⊎-elim front (λ e. ⊎-elim front (λ d. behind d e) (cases-eq (l .start) 3)) (h .1 .place) in
+      λ h. let k = h .0 in
+      let w : l .secondary ≡ 31 * k = h .1 .whole in
+      let one : 1 ≤ k = h .1 .some in
+      let front : l .start ≡ 3 → Area = λ e. inr (inl (omega arith, start-behind l k e w ∙ sym (ap (λ x. 93 + x) w))) in
+      let behind : (l .start ≡ 3 → ⊥) → l .start + k + 2 ≡ n → Area = λ d e. inr (inr (f .before-secondary ((λ z. omega arith), d), omega arith)) in
+      ⊎-elim front (λ e. ⊎-elim front (λ d. behind d e) (cases-eq (l .start) 3)) (h .1 .place) in
       ⊎-elim (λ (h : (l .secondary ≡ 0) × (l .start ≡ 0xFFFFFFFF)). inl (h .0)) some (f .area)
 
   home-split : (b : ℕ) → (home l b ≡ data-start l + (b / l .homes * width l + b % l .homes)) × (b % l .homes < l .homes)
@@ -115,10 +115,10 @@ module _ (n : ℕ) (l : Layout) (f : Layout-rules n l) where
       let hb = home-bounds b h in
       let hs = home-split b in
       let first : (a : ℕ) × (a < l .groups) × List·Memᴰ (home l b) (primaries l a) → ⊥ =
-          λ u. let s = primary-split (u .0) (home l b) (u .2) in
-          let g = group-at (home l b) (u .0) (s .0) (s .1) (s .3) in
-          let k = home-at b in
-          omega arith in
+      λ u. let s = primary-split (u .0) (home l b) (u .2) in
+      let g = group-at (home l b) (u .0) (s .0) (s .1) (s .3) in
+      let k = home-at b in
+      omega arith in
       let second : List·Memᴰ (home l b) (secondaries l) → ⊥ = λ u. ⊎-elim (λ e. omega arith) (λ e. omega arith) (secondary-place (home l b) u .0) in
       ⊎-elim first second s
 

@@ -47,26 +47,29 @@ module _ (n : ℕ) (l : Layout) where
           let q : l .secondary ≡ 0 → ⊥ = eqb-false _ _ e in
           let parts = and-parts (eqb (l .secondary % 31) 0) (eqb (l .start) 3 || eqb (l .start + l .secondary / 31 + 2) n) (sym (cond-false (eqb (l .secondary) 0) _ _ e) ∙ v) in
           let whole : l .secondary % 31 ≡ 0 = eqb-true _ _ (parts .0) in
-          inr (l .secondary / 31, record {
-            some = omega arith;
-            whole = omega arith;
-            place = ⊎-elim (λ t. inl (eqb-true _ _ t)) (λ t. inr (eqb-true _ _ t)) (or-cases (eqb (l .start) 3) (eqb (l .start + l .secondary / 31 + 2) n) (parts .1));
-          })
+          inr (
+            l .secondary / 31,
+            record {
+              some = omega arith;
+              whole = omega arith;
+              place = ⊎-elim (λ t. inl (eqb-true _ _ t)) (λ t. inr (eqb-true _ _ t)) (or-cases (eqb (l .start) 3) (eqb (l .start + l .secondary / 31 + 2) n) (parts .1));
+            },
+          )
 
   area-valid : Secondary-area n l → secondary-valid n l ≡ true
   area-valid a =
       let none : (l .secondary ≡ 0) × (l .start ≡ 0xFFFFFFFF) → secondary-valid n l ≡ true =
-          λ h. cond-true (eqb (l .secondary) 0) _ _ (eq-eqb _ _ (h .0)) ∙ eq-eqb _ _ (h .1) in
+      λ h. cond-true (eqb (l .secondary) 0) _ _ (eq-eqb _ _ (h .0)) ∙ eq-eqb _ _ (h .1) in
       let some : (k : ℕ) × Secondary-tracks n l k → secondary-valid n l ≡ true =
-          λ h. let k = h .0 in
-          let w : l .secondary ≡ 31 * k = h .1 .whole in
-          let one : 1 ≤ k = h .1 .some in
-          let q : l .secondary ≡ 0 → ⊥ = λ z. omega arith in
-          let r : l .secondary % 31 ≡ 0 = omega arith in
-          let d : l .secondary / 31 ≡ k = omega arith in
-          let place : (eqb (l .start) 3 || eqb (l .start + l .secondary / 31 + 2) n) ≡ true =
-              ⊎-elim (λ (t : l .start ≡ 3). or-left _ _ (eq-eqb _ _ t)) (λ (t : l .start + k + 2 ≡ n). or-right (eqb (l .start) 3) _ (eq-eqb _ _ (ap (λ x. l .start + x + 2) d ∙ t))) (h .1 .place) in
-          cond-false (eqb (l .secondary) 0) _ _ (ne-eqb _ _ q) ∙ and-from _ _ (eq-eqb _ _ r) place in
+      λ h. let k = h .0 in
+      let w : l .secondary ≡ 31 * k = h .1 .whole in
+      let one : 1 ≤ k = h .1 .some in
+      let q : l .secondary ≡ 0 → ⊥ = λ z. omega arith in
+      let r : l .secondary % 31 ≡ 0 = omega arith in
+      let d : l .secondary / 31 ≡ k = omega arith in
+      let place : (eqb (l .start) 3 || eqb (l .start + l .secondary / 31 + 2) n) ≡ true =
+      ⊎-elim (λ (t : l .start ≡ 3). or-left _ _ (eq-eqb _ _ t)) (λ (t : l .start + k + 2 ≡ n). or-right (eqb (l .start) 3) _ (eq-eqb _ _ (ap (λ x. l .start + x + 2) d ∙ t))) (h .1 .place) in
+      cond-false (eqb (l .secondary) 0) _ _ (ne-eqb _ _ q) ∙ and-from _ _ (eq-eqb _ _ r) place in
       ⊎-elim none some a
 
   pub rules-of : layout-valid n l ≡ true → Layout-rules n l
@@ -92,11 +95,11 @@ module _ (n : ℕ) (l : Layout) where
   unfolding layout-valid
   valid-from r =
       let counts : counts-valid l ≡ true =
-          and-from _ _ (and-from _ _ (le-leb _ _ (r .some-groups)) (le-leb _ _ (r .most-groups))) (and-from _ _ (le-leb _ _ (r .some-homes)) (le-leb _ _ (r .most-spares))) in
+      and-from _ _ (and-from _ _ (le-leb _ _ (r .some-groups)) (le-leb _ _ (r .most-groups))) (and-from _ _ (le-leb _ _ (r .some-homes)) (le-leb _ _ (r .most-spares))) in
       let front : (eqb (l .secondary) 0 || eqb (l .start) 3) ≡ true → ((eqb (l .secondary) 0 || eqb (l .start) 3) || leb (groups-end l) (31 * l .start)) ≡ true = λ t. or-left _ _ t in
       let behind : (eqb (l .secondary) 0 || eqb (l .start) 3) ≡ false → ((eqb (l .secondary) 0 || eqb (l .start) 3) || leb (groups-end l) (31 * l .start)) ≡ true =
-          λ t. let h : Secondary-behind l = ((λ e. both-ways _ t (or-left _ _ (eq-eqb _ _ e))), (λ e. both-ways _ t (or-right (eqb (l .secondary) 0) _ (eq-eqb _ _ e)))) in
-          or-right (eqb (l .secondary) 0 || eqb (l .start) 3) _ (le-leb _ _ (r .before-secondary h)) in
+      λ t. let h : Secondary-behind l = ((λ e. both-ways _ t (or-left _ _ (eq-eqb _ _ e))), (λ e. both-ways _ t (or-right (eqb (l .secondary) 0) _ (eq-eqb _ _ e)))) in
+      or-right (eqb (l .secondary) 0 || eqb (l .start) 3) _ (le-leb _ _ (r .before-secondary h)) in
       let groups : groups-valid n l ≡ true = and-from _ _ (le-leb _ _ (r .before-copies)) (⊎-elim front behind (cases-bool (eqb (l .secondary) 0 || eqb (l .start) 3))) in
       and-from _ _ counts (and-from _ _ (area-valid (r .area)) groups)
 

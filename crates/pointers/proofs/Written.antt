@@ -51,7 +51,7 @@ module _ (n : ℕ) (l : Layout) (high : n ≤ 19999) (v : layout-valid n l ≡ t
   start-small : l .start ≤ 4294967295
   start-small =
       let some : (k : ℕ) × Secondary-tracks n l k → l .start ≤ 4294967295 =
-          λ h. ⊎-elim (λ (e : l .start ≡ 3). omega arith) (λ (e : l .start + h .0 + 2 ≡ n). omega arith) (h .1 .place) in
+      λ h. ⊎-elim (λ (e : l .start ≡ 3). omega arith) (λ (e : l .start + h .0 + 2 ≡ n). omega arith) (h .1 .place) in
       ⊎-elim (λ (h : (l .secondary ≡ 0) × (l .start ≡ 0xFFFFFFFF)). omega (arith, h .1)) some (r .area)
 
   layout-back : layout-in (sheet-of l) ≡ l
@@ -73,7 +73,7 @@ module _ (n : ℕ) (l : Layout) (high : n ≤ 19999) (v : layout-valid n l ≡ t
   read-back low =
       let s : Sized (31 * (n + 1)) n = record { whole = refl; least = low; most = high } in
       let stands : (m : Layout) → layout-in (sheet-of l) ≡ m → m ≡ l → (layout-valid (last-track (31 * (n + 1))) m && marked (first-track m) (sheet-of l)) ≡ true =
-          λ m _ e. ap₂ (λ k x. layout-valid k x && marked (first-track x) (sheet-of l)) (one-last (31 * (n + 1)) n s) e ∙ and-from _ _ v marked-back in
+      λ m _ e. ap₂ (λ k x. layout-valid k x && marked (first-track x) (sheet-of l)) (one-last (31 * (n + 1)) n s) e ∙ and-from _ _ v marked-back in
       cond-true (fits-format (31 * (n + 1))) _ _ (fits-sized (31 * (n + 1)) n s)
       ∙ cond-true (layout-valid (last-track (31 * (n + 1))) (layout-in (sheet-of l)) && marked (first-track (layout-in (sheet-of l))) (sheet-of l)) _ _ (stands _ refl layout-back)
       ∙ ap Ok layout-back

@@ -16,14 +16,19 @@ impl Layout {
     pub fn first_track(&self) -> u32
         ensures { λ r. ⌜ r ≡ first-track (now (self .entry)) ⌝ }
     {
-        if self.start == FIRST_FREE_TRACK { FIRST_FREE_TRACK + self.secondary / SECTORS_A_TRACK } else { FIRST_FREE_TRACK }
+        if self.start == FIRST_FREE_TRACK {
+            FIRST_FREE_TRACK + self.secondary / SECTORS_A_TRACK
+        } else {
+            FIRST_FREE_TRACK
+        }
     }
 
     fn are_counts_valid(&self) -> bool
         ensures { λ r. ⌜ r ≡ counts-valid (now (self .entry)) ⌝ }
     {
         let spares = self.groups as u64 * self.spares as u64 + self.secondary as u64;
-        ((1 <= self.groups) & (self.groups <= 65535)) & ((1 <= self.homes) & (spares <= MOST_SPARES as u64))
+        ((1 <= self.groups) & (self.groups <= 65535))
+            & ((1 <= self.homes) & (spares <= MOST_SPARES as u64))
     }
 
     // Whether the secondary area is whole tracks, right behind the first copies of the layout or right before the last ones.
@@ -34,7 +39,8 @@ impl Layout {
             return self.start == NO_TRACK;
         }
         let behind = self.start as u64 + (self.secondary / SECTORS_A_TRACK) as u64 + 2;
-        (self.secondary % SECTORS_A_TRACK == 0) & ((self.start == FIRST_FREE_TRACK) | (behind == last as u64))
+        (self.secondary % SECTORS_A_TRACK == 0)
+            & ((self.start == FIRST_FREE_TRACK) | (behind == last as u64))
     }
 
     // The first sector of the data zone.

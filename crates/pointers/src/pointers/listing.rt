@@ -48,7 +48,12 @@ impl Pointers {
         let homes = self.group_start(group);
         let spares = homes + self.layout.homes;
         add(areas, Purpose::Homes(group), homes, spares)?;
-        add(areas, Purpose::Spares(group), spares, spares + self.layout.spares)?;
+        add(
+            areas,
+            Purpose::Spares(group),
+            spares,
+            spares + self.layout.spares,
+        )?;
         Ok(())
     }
 

@@ -33,7 +33,8 @@ fn refused(refusal: Refusal) -> Fault
 fn fits_format(sectors: u32) -> bool
     ensures { λ r. ⌜ r ≡ fits-format sectors ⌝ }
 {
-    (sectors % SECTORS_A_TRACK == 0) & ((7 * SECTORS_A_TRACK <= sectors) & (sectors <= 20_000 * SECTORS_A_TRACK))
+    (sectors % SECTORS_A_TRACK == 0)
+        & ((7 * SECTORS_A_TRACK <= sectors) & (sectors <= 20_000 * SECTORS_A_TRACK))
 }
 
 // Whether the layout that was read keeps the rules, and the bytes around it are as in every sheet.
@@ -59,10 +60,7 @@ impl Pointers {
         if !stands(&layout, last, sheet) {
             return Err(refused(Refusal::BrokenLayout));
         }
-        Ok(Pointers {
-            last,
-            layout,
-        })
+        Ok(Pointers { last, layout })
     }
 
     // The sheet of the layout; read for the same medium, it gives the layout again.
