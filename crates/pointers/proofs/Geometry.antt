@@ -8,9 +8,9 @@ use native.Mathlib.Nat.{mul-add}
 use native.Mathlib.Omega.{arith}
 use lib.Dec.{eqb}
 use Rattle.pointers.proofs.Members.{run-bounds}
-use Rattle.pointers.proofs.Ruled.{rules-of}
+use Rattle.pointers.proofs.Ruled.{rules-held, size-held}
 use Rattle.pointers.specs.Places.{Places-sound, Spare, blocks, data-start, first-track, groups-end, home, primaries, secondaries, width}
-use Rattle.pointers.specs.Rules.{Layout-rules, Secondary-area, Secondary-tracks, layout-valid}
+use Rattle.pointers.specs.Rules.{Layout-rules, Secondary-tracks, last-track}
 use Rattle.pointers.specs.declared.layout.Layout.{Layout}
 use Rattle.pointers.specs.declared.pointers.Pointers.{Pointers}
 use Rattle.std.proofs.shelf.Bits.{div-mul-add, mod-mul-add, div-below, mod-below, div-add-mod', mul-add-lt}
@@ -152,5 +152,5 @@ module _ (n : ℕ) (l : Layout) (f : Layout-rules n l) where
   few-blocks = let high = f .before-copies in omega (arith, mul-add (l .groups) (l .homes) (l .spares))
 
 -- the same, of a format on its medium
-pub group-below : (p : Pointers) (a : ℕ) → a < p .layout .groups → data-start (p .layout) + (a * width (p .layout) + width (p .layout)) ≤ 31 * (p .last - 2)
-group-below p a h = group-end (p .last) (p .layout) (rules-of (p .last) (p .layout) (p .valid)) a h
+pub group-below : (f : Pointers) (a : ℕ) → a < f .layout .groups → (data-start (f .layout) + (a * width (f .layout) + width (f .layout)) ≤ 31 * (last-track (f .sectors) - 2)) × (last-track (f .sectors) ≤ 19999)
+group-below f a h = (group-end (last-track (f .sectors)) (f .layout) (rules-held f) a h, size-held f .most)

@@ -54,7 +54,7 @@ module _ (l : Layout) where
   joined-groups (suc k) =
       let s = data-start l + k * width l in
       let e : s + l .homes + l .spares ≡ data-start l + suc k * width l = omega (arith, add-mul k 1 (width l)) in
-      joined-++ (data-start l) s (data-start l + suc k * width l) (areas-of-groups l k) (group-areas l k s) (joined-groups k) (joined-++ s (s + l .homes) (data-start l + suc k * width l) (area (Homes k) s (s + l .homes)) (area (Spares k) (s + l .homes) (s + l .homes + l .spares)) (joined-area (Homes k) s (s + l .homes) (omega arith)) (subst (λ x. Joined (s + l .homes) x (area (Spares k) (s + l .homes) (s + l .homes + l .spares))) e (joined-area (Spares k) (s + l .homes) (s + l .homes + l .spares) (omega arith))))
+      joined-++ (data-start l) s (data-start l + suc k * width l) (areas-of-groups l k) (group-areas l k) (joined-groups k) (joined-++ s (s + l .homes) (data-start l + suc k * width l) (area (Homes k) s (s + l .homes)) (area (Spares k) (s + l .homes) (s + l .homes + l .spares)) (joined-area (Homes k) s (s + l .homes) (omega arith)) (subst (λ x. Joined (s + l .homes) x (area (Spares k) (s + l .homes) (s + l .homes + l .spares))) e (joined-area (Spares k) (s + l .homes) (s + l .homes + l .spares) (omega arith))))
 
 module _ (n : ℕ) (l : Layout) (r : Layout-rules n l) where
   -- the data zone ends where its groups have room

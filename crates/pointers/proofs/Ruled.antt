@@ -8,6 +8,7 @@ use lib.Dec.{eqb, leb}
 use Rattle.pointers.specs.Places.{first-track, data-start, width, groups-end}
 use Rattle.pointers.specs.Rules.{Layout-rules, Secondary-area, Secondary-behind, Secondary-tracks, Sized, counts-valid, fits-format, groups-valid, last-track, layout-valid, secondary-valid}
 use Rattle.pointers.specs.declared.layout.Layout.{Layout}
+use Rattle.pointers.specs.declared.pointers.Pointers.{Pointers}
 use Rattle.std.proofs.shelf.Tests.{and-parts, and-from, or-left, or-right, or-cases, leb-true, eqb-true, le-leb, eq-eqb, ne-eqb, cases-bool, both-ways, cond-true, cond-false, eqb-false}
 use Rattle.std.specs.Orderings.{Decides}
 
@@ -110,3 +111,10 @@ first-track-low l =
 
 pub first-track-small : (n : ℕ) (l : Layout) → layout-valid n l ≡ true → first-track l ≤ 36
 first-track-small n l v = let r = rules-of n l v in let a = first-track-low l in let b = r .most-spares in omega arith
+
+-- the size and the rules of a format on its medium
+pub size-held : (f : Pointers) → Sized (f .sectors) (last-track (f .sectors))
+size-held f = sized (f .sectors) (f .sized)
+
+pub rules-held : (f : Pointers) → Layout-rules (last-track (f .sectors)) (f .layout)
+rules-held f = rules-of (last-track (f .sectors)) (f .layout) (f .valid)

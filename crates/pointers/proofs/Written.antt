@@ -6,17 +6,19 @@ use mathlib.Core.Logic.{_⊎_, inl, inr, ⊎-elim}
 use mathlib.Core.Path.{_≡_, refl, sym, ap, ap₂, _∙_}
 use lib.ListN.{length, take, drop, replicate}
 use native.Mathlib.Omega.{arith}
+use Rattle.pointers.proofs.Answered.{reads}
 use Rattle.pointers.proofs.Geometry.{few-blocks}
-use Rattle.pointers.proofs.Ruled.{fits-sized, one-last, rules-of, valid-from}
+use Rattle.pointers.proofs.Ruled.{rules-of, size-held}
 use Rattle.pointers.specs.Places.{first-track}
 use Rattle.pointers.specs.Reading.{sheet-read}
-use Rattle.pointers.specs.Rules.{Layout-rules, Secondary-tracks, Sized, fits-format, last-track, layout-valid}
+use Rattle.pointers.specs.Rules.{Layout-rules, Secondary-tracks, last-track, layout-valid}
 use Rattle.pointers.specs.Sheets.{four-at, four-bytes, head, layout-in, marked, sheet-of, two-at, two-bytes}
 use Rattle.pointers.specs.declared.layout.Layout.{Layout}
+use Rattle.pointers.specs.declared.pointers.Pointers.{Pointers}
 use Rattle.std.proofs.shelf.Bits.{mul-le}
 use Rattle.std.proofs.shelf.Equals.{sameBytes-decides}
-use Rattle.std.proofs.shelf.Tests.{and-from, cond-true}
-use Rattle.std.specs.declared.result.Result.the-variants.{Ok, Err}
+use Rattle.std.proofs.shelf.Tests.{and-from}
+use Rattle.std.specs.declared.result.Result.the-variants.{Ok}
 
 -- a field put into a sheet
 abbrev pub with-field : ℕ → List ℕ → List ℕ → List ℕ
@@ -69,11 +71,10 @@ module _ (n : ℕ) (l : Layout) (high : n ≤ 19999) (v : layout-valid n l ≡ t
   unfolding marked sheet-of
   marked-back = and-from _ _ (sameBytes-decides (head (first-track l)) (head (first-track l)) .1 refl) refl
 
-  pub read-back : 6 ≤ n → sheet-read (31 * (n + 1)) (sheet-of l) ≡ Ok l
-  read-back low =
-      let s : Sized (31 * (n + 1)) n = record { whole = refl; least = low; most = high } in
-      let stands : (m : Layout) → layout-in (sheet-of l) ≡ m → m ≡ l → (layout-valid (last-track (31 * (n + 1))) m && marked (first-track m) (sheet-of l)) ≡ true =
-      λ m _ e. ap₂ (λ k x. layout-valid k x && marked (first-track x) (sheet-of l)) (one-last (31 * (n + 1)) n s) e ∙ and-from _ _ v marked-back in
-      cond-true (fits-format (31 * (n + 1))) _ _ (fits-sized (31 * (n + 1)) n s)
-      ∙ cond-true (layout-valid (last-track (31 * (n + 1))) (layout-in (sheet-of l)) && marked (first-track (layout-in (sheet-of l))) (sheet-of l)) _ _ (stands _ refl layout-back)
-      ∙ ap Ok layout-back
+-- the sheet that is written is read as it was
+pub read-back : (f : Pointers) → sheet-read (f .sectors) (sheet-of (f .layout)) ≡ Ok f
+read-back f =
+    let n = last-track (f .sectors) in
+    let l = f .layout in
+    let back = layout-back n l (size-held f .most) (f .valid) in
+    sym (reads (f .sectors) (sheet-of l) f refl (sym back) (ap (λ x. marked (first-track x) (sheet-of l)) back ∙ marked-back n l (size-held f .most) (f .valid)))

@@ -4,7 +4,7 @@ use mathlib.Core.Bool.{cond, _||_}
 use mathlib.Core.List.{List, [], _∷_, _++_}
 use mathlib.Core.Path.{_≡_}
 use lib.Dec.{eqb, ltb}
-use Rattle.pointers.specs.Places.{data-start, groups-end, width}
+use Rattle.pointers.specs.Places.{data-start, group-start, groups-end}
 use Rattle.pointers.specs.declared.areas.Area.{Area}
 use Rattle.pointers.specs.declared.areas.Purpose.{Purpose}
 use Rattle.pointers.specs.declared.areas.Purpose.the-variants.{Copies, Secondary, Homes, Spares, Unused}
@@ -18,14 +18,15 @@ area use-for first end = cond (ltb first end) (record { first = first; last = en
 abbrev pub zone-end : ℕ → Layout → ℕ
 zone-end n l = cond (eqb (l .secondary) 0 || eqb (l .start) 3) (31 * (n - 2)) (31 * l .start)
 
--- the homes of group a, whose first sector is s, and the spares behind them
-abbrev pub group-areas : Layout → ℕ → ℕ → List Area
-group-areas l a s = area (Homes a) s (s + l .homes) ++ area (Spares a) (s + l .homes) (s + l .homes + l .spares)
+-- the homes of group a, and the spares behind them
+abbrev pub group-areas : Layout → ℕ → List Area
+group-areas l a =
+    area (Homes a) (group-start l a) (group-start l a + l .homes) ++ area (Spares a) (group-start l a + l .homes) (group-start l a + l .homes + l .spares)
 
 -- those of the first a groups
 abbrev pub areas-of-groups : Layout → ℕ → List Area
 areas-of-groups l zero = []
-areas-of-groups l (suc a) = areas-of-groups l a ++ group-areas l a (data-start l + a * width l)
+areas-of-groups l (suc a) = areas-of-groups l a ++ group-areas l a
 
 -- the areas before the groups, and those behind
 abbrev pub areas-before : Layout → List Area

@@ -24,9 +24,13 @@ data-start l = 31 * first-track l
 abbrev pub width : Layout → ℕ
 width l = l .homes + l .spares
 
+-- the first sector of group a
+abbrev pub group-start : Layout → ℕ → ℕ
+group-start l a = data-start l + a * width l
+
 -- the first sector behind the groups
 abbrev pub groups-end : Layout → ℕ
-groups-end l = data-start l + l .groups * width l
+groups-end l = group-start l (l .groups)
 
 -- how many blocks there are
 unfoldable pub blocks : Layout → ℕ

@@ -1,8 +1,7 @@
-// The format on a medium: its last track, and a layout that keeps the rules there.
+// The format on a medium: how many sectors that has, and a layout that keeps the rules there.
 ghost use mathlib.Core.Bool.{true};
 ghost use mathlib.Core.Path.{_≡_};
-ghost use Prim.Native.Nat.{_≤_};
-ghost use Rattle.pointers.specs.Rules.{layout-valid};
+ghost use Rattle.pointers.specs.Rules.{fits-format, last-track, layout-valid};
 use crate::layout::Layout;
 
 pub mod listing;
@@ -11,9 +10,8 @@ pub mod reading;
 
 #[derive(Drop)]
 pub struct Pointers {
-    last: u32,
+    sectors: u32,
     layout: Layout,
-    ghost least: { 6 ≤ last },
-    ghost most: { last ≤ 19999 },
-    ghost valid: { layout-valid last layout ≡ true },
+    ghost sized: { fits-format sectors ≡ true },
+    ghost valid: { layout-valid (last-track sectors) layout ≡ true },
 }

@@ -2,9 +2,9 @@
 ghost use mathlib.Core.Bool.{cond};
 ghost use mathlib.Core.List.{_++_};
 ghost use mathlib.Core.Path.{_≡_};
-ghost use Prim.Native.Nat.{_+_, _*_, _<_, _≤_};
-ghost use Rattle.pointers.specs.Areas.{Listed, area, areas-before, areas-behind, areas-of-groups, group-areas, zone-end};
-ghost use Rattle.pointers.specs.Places.{data-start, width};
+ghost use Prim.Native.Nat.{_<_};
+ghost use Rattle.pointers.specs.Areas.{Listed, area, areas-of-groups, group-areas, zone-end};
+ghost use Rattle.pointers.specs.Rules.{last-track};
 ghost use Rattle.std.specs.Of.Vec.{vec-items};
 ghost use Rattle.std.specs.Results.{Cases, isOk};
 use crate::areas::Area;
@@ -33,17 +33,17 @@ fn add(areas: &mut Vec<Area>, purpose: Purpose, first: u32, end: u32) -> Result<
 impl Pointers {
     // The end of the data zone: a secondary area behind it, or the last copies of the layout.
     fn zone_end(&self) -> u32
-        ensures { λ r. ⌜ r ≡ zone-end (now (self .entry) .last) (now (self .entry) .layout) ⌝ }
+        ensures { λ r. ⌜ r ≡ zone-end (last-track (now (self .entry) .sectors)) (now (self .entry) .layout) ⌝ }
     {
         if (self.layout.secondary == 0) | (self.layout.start == FIRST_FREE_TRACK) {
-            return start_of(self.last - 2);
+            return start_of(self.last_track() - 2);
         }
         start_of(self.layout.start)
     }
 
     fn add_group(&self, areas: &mut Vec<Area>, group: u32) -> Result<(), AllocError>
         requires { ⌜ group < now self .layout .groups ⌝ }
-        ensures { λ r. ⌜ Cases r (λ _. vec-items (now (areas .exit)) ≡ vec-items (now (areas .entry)) ++ group-areas (now (self .entry) .layout) group (data-start (now (self .entry) .layout) + group * width (now (self .entry) .layout))) (λ _. Unit {0}) ⌝ }
+        ensures { λ r. ⌜ Cases r (λ _. vec-items (now (areas .exit)) ≡ vec-items (now (areas .entry)) ++ group-areas (now (self .entry) .layout) group) (λ _. Unit {0}) ⌝ }
     {
         let homes = self.group_start(group);
         let spares = homes + self.layout.homes;
@@ -68,11 +68,12 @@ impl Pointers {
 
     // The areas of the medium in rising order.
     pub fn areas(&self, heap: Global) -> Result<Vec<Area>, AllocError>
-        ensures { λ r. ⌜ Cases r (λ v. Listed (now (self .entry) .last) (now (self .entry) .layout) (vec-items v)) (λ _. Unit {0}) ⌝ }
+        ensures { λ r. ⌜ Cases r (λ v. Listed (last-track (now (self .entry) .sectors)) (now (self .entry) .layout) (vec-items v)) (λ _. Unit {0}) ⌝ }
     {
+        let last = self.last_track();
         let front = start_of(FIRST_FREE_TRACK);
-        let copies = start_of(self.last - 2);
-        let end = start_of(self.last) + SECTORS_A_TRACK;
+        let copies = start_of(last - 2);
+        let end = start_of(last) + SECTORS_A_TRACK;
         let zone = self.layout.data_start();
         let zone_end = self.zone_end();
         let mut areas = Vec::new(heap);

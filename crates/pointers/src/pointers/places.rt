@@ -1,21 +1,29 @@
 // Where the homes of blocks lie.
 ghost use mathlib.Core.Path.{_≡_};
-ghost use Prim.Native.Nat.{_+_, _*_, _<_};
-ghost use Rattle.pointers.specs.Places.{Places-sound, blocks, data-start, groups-end, home, width};
+ghost use Prim.Native.Nat.{_<_};
+ghost use Rattle.pointers.specs.Rules.{last-track};
+ghost use Rattle.pointers.specs.Places.{Places-sound, blocks, group-start, groups-end, home};
+use crate::layout::SECTORS_A_TRACK;
 use crate::pointers::Pointers;
 
 impl Pointers {
     pub fn block_count(&self) -> u32
         ensures count { λ r. ⌜ r ≡ blocks (now (self .entry) .layout) ⌝ }
-        ensures places { λ _. ⌜ Places-sound (now (self .entry) .last) (now (self .entry) .layout) ⌝ }
+        ensures places { λ _. ⌜ Places-sound (last-track (now (self .entry) .sectors)) (now (self .entry) .layout) ⌝ }
     {
         self.layout.groups * self.layout.homes
+    }
+
+    pub(crate) fn last_track(&self) -> u32
+        ensures { λ r. ⌜ r ≡ last-track (now (self .entry) .sectors) ⌝ }
+    {
+        self.sectors / SECTORS_A_TRACK - 1
     }
 
     // The first sector of a group.
     pub(crate) fn group_start(&self, group: u32) -> u32
         requires { ⌜ group < now self .layout .groups ⌝ }
-        ensures { λ r. ⌜ r ≡ data-start (now (self .entry) .layout) + group * width (now (self .entry) .layout) ⌝ }
+        ensures { λ r. ⌜ r ≡ group-start (now (self .entry) .layout) group ⌝ }
     {
         self.layout.data_start() + group * (self.layout.homes + self.layout.spares)
     }

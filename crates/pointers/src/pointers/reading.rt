@@ -4,7 +4,7 @@ ghost use Prim.Native.Nat.{_+_, _*_, _≤_};
 ghost use lib.ListN.{length};
 ghost use Rattle.format.specs.Laws.{format-fault};
 ghost use Rattle.pointers.specs.Places.{first-track};
-ghost use Rattle.pointers.specs.Reading.{Sheet-read, Sheet-refused, layout-of, sheet-read};
+ghost use Rattle.pointers.specs.Reading.{Sheet-read, Sheet-refused, sheet-read};
 ghost use Rattle.pointers.specs.Rules.{fits-format, layout-valid};
 ghost use Rattle.pointers.specs.Sheets.{layout-in, marked, sheet-of};
 ghost use Rattle.std.specs.Results.{Cases};
@@ -49,7 +49,7 @@ impl Pointers {
     // Reads the sheet of a layout for a medium of so many sectors.
     pub fn read(sectors: u32, sheet: &[u8]) -> Result<Pointers, Fault>
         requires { ⌜ length (now sheet) ≡ 512 ⌝ }
-        ensures answer { λ r. ⌜ layout-of r ≡ sheet-read sectors (now (sheet .entry)) ⌝ }
+        ensures answer { λ r. ⌜ r ≡ sheet-read sectors (now (sheet .entry)) ⌝ }
         ensures meaning { λ r. ⌜ Cases r (Sheet-read sectors (now (sheet .entry))) (Sheet-refused sectors (now (sheet .entry))) ⌝ }
     {
         if !fits_format(sectors) {
@@ -60,13 +60,13 @@ impl Pointers {
         if !stands(&layout, last, sheet) {
             return Err(refused(Refusal::BrokenLayout));
         }
-        Ok(Pointers { last, layout })
+        Ok(Pointers { sectors, layout })
     }
 
-    // The sheet of the layout; read for the same medium, it gives the layout again.
+    // The sheet of the layout; read for a medium of the same size, it gives the same again.
     pub fn write(&self) -> [u8; 512]
         ensures bytes { λ r. ⌜ r ≡ sheet-of (now (self .entry) .layout) ⌝ }
-        ensures back { λ r. ⌜ sheet-read (31 * (now (self .entry) .last + 1)) r ≡ Ok (now (self .entry) .layout) ⌝ }
+        ensures back { λ r. ⌜ sheet-read (now (self .entry) .sectors) r ≡ Ok (now (self .entry)) ⌝ }
     {
         self.layout.to_sheet()
     }

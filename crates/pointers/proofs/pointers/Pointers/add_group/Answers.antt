@@ -3,7 +3,7 @@ use mathlib.Core.List.{_++_}
 use mathlib.Core.Path.{ap, _∙_}
 use native.Mathlib.Omega.{arith}
 use Rattle.pointers.proofs.Geometry.{group-below}
-use Rattle.pointers.specs.Areas.{area, group-areas}
+use Rattle.pointers.specs.Areas.{area}
 use Rattle.pointers.specs.declared.areas.Purpose.the-variants.{Homes, Spares}
 use Rattle.std.proofs.shelf.Lists.{append-assoc}
 use Rattle.std.specs.Of.Vec.{vec-items}
@@ -12,15 +12,13 @@ use Rattle.pointers.proofs.pointers.Pointers.add_group.Needs as need
 pub add-spares : need.add-spares
 add-spares c =
     let h = group-below (c .args .self .now) (c .args .group) (c .pre) in
-    let m = c .args .self .now .most in
-    let e = c .group-start-homes .ensures in
+        let e = c .group-start-homes .ensures in
     omega arith
 
 pub add-spares-2 : need.add-spares-2
 add-spares-2 c =
     let h = group-below (c .args .self .now) (c .args .group) (c .pre) in
-    let m = c .args .self .now .most in
-    let e = c .group-start-homes .ensures in
+        let e = c .group-start-homes .ensures in
     omega arith
 
 pub returns : need.returns
@@ -33,4 +31,4 @@ returns c =
     c .in-Continue-add-2 .ensures tt
     ∙ ap (λ ys. ys ++ spares) (c .in-Continue-add .ensures tt)
     ∙ append-assoc xs (area (Homes a) s (s + l .homes)) spares
-    ∙ ap (λ x. xs ++ group-areas l a x) (c .group-start-homes .ensures)
+    ∙ ap (λ x. xs ++ (area (Homes a) x (x + l .homes) ++ area (Spares a) (x + l .homes) (x + l .homes + l .spares))) (c .group-start-homes .ensures)

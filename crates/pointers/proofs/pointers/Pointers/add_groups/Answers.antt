@@ -1,9 +1,8 @@
-use Prim.Native.Nat.{suc, _+_, _*_}
+use Prim.Native.Nat.{suc, _+_}
 use mathlib.Core.List.{_++_}
 use mathlib.Core.Path.{_≡_, sym, ap, _∙_}
 use native.Mathlib.Omega.{arith}
 use Rattle.pointers.specs.Areas.{areas-of-groups, group-areas}
-use Rattle.pointers.specs.Places.{data-start, width}
 use Rattle.std.proofs.shelf.Lists.{append-assoc, append-nil}
 use Rattle.std.specs.Of.Vec.{vec-items}
 use Rattle.pointers.proofs.pointers.Pointers.add_groups.Needs as need
@@ -16,7 +15,7 @@ loop-group-again c =
     let l = c .args .self .now .layout in
     let i = c .loop-group .group in
     let xs = vec-items (c .args .areas .now) in
-    let more = group-areas l i (data-start l + i * width l) in
+    let more = group-areas l i in
     let next : suc i ≡ i + 1 = omega arith in
     c .in-Continue-add-group .ensures tt
     ∙ ap (λ ys. ys ++ more) (c .loop-group .inv)
