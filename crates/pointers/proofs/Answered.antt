@@ -71,7 +71,7 @@ module _ (p : ℕ) (d : List ℕ) where
         let first = given-true (fits-format p) (layout-read p d) wrong-size fits in
         let unruly : layout-valid (last-track p) m ≡ false → sheet-read p d ≡ broken-layout = λ v. first ∙ given-false (layout-valid (last-track p) m) _ broken-layout v in
         let unmarked : layout-valid (last-track p) m ≡ true → sheet-read p d ≡ broken-layout =
-            λ v. first ∙ given-true (layout-valid (last-track p) m) _ broken-layout v ∙ cond-false (marked (first-track m) d) _ _ (ap (λ b. b && marked (first-track m) d) (sym v) ∙ t) in
+        λ v. first ∙ given-true (layout-valid (last-track p) m) _ broken-layout v ∙ cond-false (marked (first-track m) d) _ _ (ap (λ b. b && marked (first-track m) d) (sym v) ∙ t) in
         ⊎-elim unmarked unruly (cases-bool (layout-valid (last-track p) m))
 
     pub broken : stands l ≡ false → (broken-layout ≡ sheet-read p d) × Sheet-refused p d (format-fault BrokenLayout 0)

@@ -3,12 +3,14 @@ ghost use mathlib.Core.Bool.{true};
 ghost use mathlib.Core.Path.{_≡_};
 ghost use Rattle.pointers.specs.Rules.{fits-format, last-track, layout-valid};
 use crate::layout::Layout;
+use crate::layout::LayoutDebug;
+use crate::layout::LayoutPartialEq;
 
 pub mod listing;
 pub mod places;
 pub mod reading;
 
-#[derive(Drop)]
+#[derive(Clone, Copy, PartialEq, Eq, Debug)]
 pub struct Pointers {
     sectors: u32,
     layout: Layout,

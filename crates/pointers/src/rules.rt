@@ -4,8 +4,10 @@ ghost use mathlib.Core.Path.{_≡_};
 ghost use Prim.Native.Nat.{_≤_, _-_};
 ghost use Rattle.pointers.specs.Places.{data-start, first-track, groups-end};
 ghost use Rattle.pointers.specs.Rules.{counts-valid, groups-valid, layout-valid, secondary-valid};
+use crate::layout::COPIES_BEFORE_LAST;
 use crate::layout::FIRST_FREE_TRACK;
 use crate::layout::Layout;
+use crate::layout::MOST_GROUPS;
 use crate::layout::MOST_SPARES;
 use crate::layout::NO_TRACK;
 use crate::layout::SECTORS_A_TRACK;
@@ -27,7 +29,7 @@ impl Layout {
         ensures { λ r. ⌜ r ≡ counts-valid (now (self .entry)) ⌝ }
     {
         let spares = self.groups as u64 * self.spares as u64 + self.secondary as u64;
-        ((1 <= self.groups) & (self.groups <= 65535))
+        ((1 <= self.groups) & (self.groups <= MOST_GROUPS))
             & ((1 <= self.homes) & (spares <= MOST_SPARES as u64))
     }
 
@@ -38,7 +40,9 @@ impl Layout {
         if self.secondary == 0 {
             return self.start == NO_TRACK;
         }
-        let behind = self.start as u64 + (self.secondary / SECTORS_A_TRACK) as u64 + 2;
+        let behind = self.start as u64
+            + (self.secondary / SECTORS_A_TRACK) as u64
+            + COPIES_BEFORE_LAST as u64;
         (self.secondary % SECTORS_A_TRACK == 0)
             & ((self.start == FIRST_FREE_TRACK) | (behind == last as u64))
     }
@@ -65,7 +69,7 @@ impl Layout {
         ensures { λ r. ⌜ r ≡ groups-valid last (now (self .entry)) ⌝ }
     {
         let end = self.groups_end();
-        let before_copies = end <= start_of(last - 2) as u64;
+        let before_copies = end <= start_of(last - COPIES_BEFORE_LAST) as u64;
         if (self.secondary == 0) | (self.start == FIRST_FREE_TRACK) {
             return before_copies;
         }

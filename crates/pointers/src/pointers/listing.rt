@@ -9,6 +9,7 @@ ghost use Rattle.std.specs.Of.Vec.{vec-items};
 ghost use Rattle.std.specs.Results.{Cases, isOk};
 use crate::areas::Area;
 use crate::areas::Purpose;
+use crate::layout::COPIES_BEFORE_LAST;
 use crate::layout::FIRST_FREE_TRACK;
 use crate::layout::SECTORS_A_TRACK;
 use crate::pointers::Pointers;
@@ -36,7 +37,7 @@ impl Pointers {
         ensures { λ r. ⌜ r ≡ zone-end (last-track (now (self .entry) .sectors)) (now (self .entry) .layout) ⌝ }
     {
         if (self.layout.secondary == 0) | (self.layout.start == FIRST_FREE_TRACK) {
-            return start_of(self.last_track() - 2);
+            return start_of(self.last_track() - COPIES_BEFORE_LAST);
         }
         start_of(self.layout.start)
     }
@@ -72,7 +73,7 @@ impl Pointers {
     {
         let last = self.last_track();
         let front = start_of(FIRST_FREE_TRACK);
-        let copies = start_of(last - 2);
+        let copies = start_of(last - COPIES_BEFORE_LAST);
         let end = start_of(last) + SECTORS_A_TRACK;
         let zone = self.layout.data_start();
         let zone_end = self.zone_end();

@@ -1,17 +1,32 @@
 // Where the homes of blocks lie.
 ghost use mathlib.Core.Path.{_≡_};
-ghost use Prim.Native.Nat.{_<_};
-ghost use Rattle.pointers.specs.Rules.{last-track};
+ghost use Prim.Native.Nat.{_+_, _*_, _/_, _%_, _<_, _≤_};
 ghost use Rattle.pointers.specs.Places.{Places-sound, blocks, group-start, groups-end, home};
+ghost use Rattle.pointers.specs.Rules.{last-track};
 use crate::layout::SECTORS_A_TRACK;
 use crate::pointers::Pointers;
+
+fn count_of(groups: u32, homes: u32) -> u32
+    requires { ⌜ groups * homes ≤ 620000 ⌝ }
+    ensures { λ r. ⌜ r ≡ groups * homes ⌝ }
+{
+    groups * homes
+}
+
+// The home of a block: `start` is the first sector of the groups, and `width` how many sectors a group takes.
+fn home_at(start: u32, homes: u32, width: u32, block: u32) -> u32
+    requires { ⌜ 1 ≤ homes ⌝ ∗ ⌜ start + (block / homes * width + block % homes) ≤ 620000 ⌝ }
+    ensures { λ r. ⌜ r ≡ start + (block / homes * width + block % homes) ⌝ }
+{
+    start + (block / homes * width + block % homes)
+}
 
 impl Pointers {
     pub fn block_count(&self) -> u32
         ensures count { λ r. ⌜ r ≡ blocks (now (self .entry) .layout) ⌝ }
         ensures places { λ _. ⌜ Places-sound (last-track (now (self .entry) .sectors)) (now (self .entry) .layout) ⌝ }
     {
-        self.layout.groups * self.layout.homes
+        count_of(self.layout.groups, self.layout.homes)
     }
 
     pub(crate) fn last_track(&self) -> u32
@@ -40,6 +55,7 @@ impl Pointers {
         requires { ⌜ block < blocks (now self .layout) ⌝ }
         ensures { λ r. ⌜ r ≡ home (now (self .entry) .layout) block ⌝ }
     {
-        self.group_start(block / self.layout.homes) + block % self.layout.homes
+        let width = self.layout.homes + self.layout.spares;
+        home_at(self.layout.data_start(), self.layout.homes, width, block)
     }
 }

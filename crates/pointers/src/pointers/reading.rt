@@ -1,16 +1,18 @@
 // The format on a medium, by the sheet of its layout.
+ghost use mathlib.Core.Bool.{_&&_};
 ghost use mathlib.Core.Path.{_≡_};
-ghost use Prim.Native.Nat.{_+_, _*_, _≤_};
+ghost use Prim.Native.Nat.{_≤_};
 ghost use lib.ListN.{length};
 ghost use Rattle.format.specs.Laws.{format-fault};
 ghost use Rattle.pointers.specs.Places.{first-track};
 ghost use Rattle.pointers.specs.Reading.{Sheet-read, Sheet-refused, sheet-read};
 ghost use Rattle.pointers.specs.Rules.{fits-format, layout-valid};
-ghost use Rattle.pointers.specs.Sheets.{layout-in, marked, sheet-of};
+ghost use Rattle.pointers.specs.Sheets.{marked, sheet-of};
 ghost use Rattle.std.specs.Results.{Cases};
 ghost use Rattle.std.specs.declared.result.Result.the-variants.{Ok};
-ghost use mathlib.Core.Bool.{_&&_};
+use crate::layout::LEAST_TRACKS;
 use crate::layout::Layout;
+use crate::layout::MOST_TRACKS;
 use crate::layout::SECTORS_A_TRACK;
 use crate::pointers::Pointers;
 use crate::sheet::is_marked;
@@ -29,12 +31,12 @@ fn refused(refusal: Refusal) -> Fault
     }
 }
 
-// Whether a medium of so many sectors fits the format: 7 to 20,000 whole tracks.
+// Whether a medium of so many sectors fits the format: whole tracks, neither too few nor too many.
 fn fits_format(sectors: u32) -> bool
     ensures { λ r. ⌜ r ≡ fits-format sectors ⌝ }
 {
     (sectors % SECTORS_A_TRACK == 0)
-        & ((7 * SECTORS_A_TRACK <= sectors) & (sectors <= 20_000 * SECTORS_A_TRACK))
+        & ((LEAST_TRACKS * SECTORS_A_TRACK <= sectors) & (sectors <= MOST_TRACKS * SECTORS_A_TRACK))
 }
 
 // Whether the layout that was read keeps the rules, and the bytes around it are as in every sheet.

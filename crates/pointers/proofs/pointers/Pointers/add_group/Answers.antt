@@ -12,13 +12,13 @@ use Rattle.pointers.proofs.pointers.Pointers.add_group.Needs as need
 pub add-spares : need.add-spares
 add-spares c =
     let h = group-below (c .args .self .now) (c .args .group) (c .pre) in
-        let e = c .group-start-homes .ensures in
+    let e = c .group-start-homes .ensures in
     omega arith
 
 pub add-spares-2 : need.add-spares-2
 add-spares-2 c =
     let h = group-below (c .args .self .now) (c .args .group) (c .pre) in
-        let e = c .group-start-homes .ensures in
+    let e = c .group-start-homes .ensures in
     omega arith
 
 pub returns : need.returns
