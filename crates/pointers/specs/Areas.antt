@@ -28,14 +28,16 @@ abbrev pub areas-of-groups : Layout → ℕ → List Area
 areas-of-groups l zero = []
 areas-of-groups l (suc a) = areas-of-groups l a ++ group-areas l a
 
--- the areas before the groups, and those behind
+-- the areas before the groups
 abbrev pub areas-before : Layout → List Area
 areas-before l = area Copies 0 93 ++ area Secondary 93 (data-start l)
 
+-- the areas behind the groups
 abbrev pub areas-behind : ℕ → Layout → List Area
 areas-behind n l =
     area Unused (groups-end l) (zone-end n l) ++ (area Secondary (zone-end n l) (31 * (n - 2)) ++ area Copies (31 * (n - 2)) (31 * (n + 1)))
 
+-- all areas
 unfoldable pub areas-of : ℕ → Layout → List Area
 areas-of n l = areas-before l ++ (areas-of-groups l (l .groups) ++ areas-behind n l)
 

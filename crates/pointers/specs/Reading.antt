@@ -19,9 +19,11 @@ abbrev pub given-that : {A : Type 0} (t : Bool) → (t ≡ true → A) → A →
 given-that true f x = f refl
 given-that false f x = x
 
+-- the refusal of a size that does not fit the format
 abbrev pub wrong-size : Result Pointers Fault
 wrong-size = Err (format-fault WrongSectorCount 0)
 
+-- the refusal of a sheet that breaks a rule
 abbrev pub broken-layout : Result Pointers Fault
 broken-layout = Err (format-fault BrokenLayout 0)
 

@@ -27,6 +27,7 @@ Secondary-area n l = ((l .secondary ≡ 0) × (l .start ≡ 0xFFFFFFFF)) ⊎ ((k
 abbrev pub Secondary-behind : Layout → Type 0
 Secondary-behind l = (l .secondary ≡ 0 → ⊥) × (l .start ≡ 3 → ⊥)
 
+-- the layout keeps the rules
 pub record Layout-rules (n : ℕ) (l : Layout) : Type 0 where
   pub some-groups : 1 ≤ l .groups
   pub most-groups : l .groups ≤ 65535
@@ -37,25 +38,29 @@ pub record Layout-rules (n : ℕ) (l : Layout) : Type 0 where
   pub before-copies : groups-end l ≤ 31 * (n - 2)
   pub before-secondary : Secondary-behind l → groups-end l ≤ 31 * l .start
 
--- the test of the size, and the last track of a medium that passes it
+-- the test of the size: 7 to 20,000 whole tracks
 abbrev pub fits-format : ℕ → Bool
 fits-format p = eqb (p % 31) 0 && (leb 217 p && leb p 620000)
 
+-- the last track of a medium that passes it
 abbrev pub last-track : ℕ → ℕ
 last-track p = p / 31 - 1
 
--- the tests of the rules, and all of them
+-- the test of the counts
 abbrev pub counts-valid : Layout → Bool
 counts-valid l =
     (leb 1 (l .groups) && leb (l .groups) 65535) && (leb 1 (l .homes) && leb (l .groups * l .spares + l .secondary) 1024)
 
+-- the test of the secondary area
 abbrev pub secondary-valid : ℕ → Layout → Bool
 secondary-valid n l =
     cond (eqb (l .secondary) 0) (eqb (l .start) 0xFFFFFFFF) (eqb (l .secondary % 31) 0 && (eqb (l .start) 3 || eqb (l .start + l .secondary / 31 + 2) n))
 
+-- the test that the groups have room
 abbrev pub groups-valid : ℕ → Layout → Bool
 groups-valid n l =
     leb (groups-end l) (31 * (n - 2)) && ((eqb (l .secondary) 0 || eqb (l .start) 3) || leb (groups-end l) (31 * l .start))
 
+-- all of them: whether the layout keeps the rules
 unfoldable pub layout-valid : ℕ → Layout → Bool
 layout-valid n l = counts-valid l && (secondary-valid n l && groups-valid n l)

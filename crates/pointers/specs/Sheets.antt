@@ -8,17 +8,19 @@ use Rattle.pointers.specs.Places.{first-track}
 use Rattle.pointers.specs.declared.layout.Layout.{Layout}
 use Rattle.std.specs.shelf.Text.{sameBytes}
 
--- a number in two and in four bytes
+-- a number in two bytes
 abbrev pub two-bytes : ℕ → List ℕ
 two-bytes x = (x / 256 % 256) ∷ (x % 256) ∷ []
 
+-- a number in four bytes
 abbrev pub four-bytes : ℕ → List ℕ
 four-bytes x = (x / 16777216 % 256) ∷ (x / 65536 % 256) ∷ (x / 256 % 256) ∷ (x % 256) ∷ []
 
--- the number in the two and in the four bytes from byte i on
+-- the number in the two bytes from byte i on
 abbrev pub two-at : List ℕ → ℕ → ℕ
 two-at d i = getD d i 0 * 256 + getD d (i + 1) 0
 
+-- the number in the four bytes from byte i on
 abbrev pub four-at : List ℕ → ℕ → ℕ
 four-at d i = getD d i 0 * 16777216 + getD d (i + 1) 0 * 65536 + getD d (i + 2) 0 * 256 + getD d (i + 3) 0
 
@@ -34,6 +36,7 @@ head first = 0x0A ∷ 0x0A ∷ first ∷ 0x10 ∷ []
 abbrev pub Marked : ℕ → List ℕ → Type 0
 Marked first d = (take 4 d ≡ head first) × (take 16 (drop 14 d) ≡ replicate 16 0xFF)
 
+-- the test of that
 unfoldable pub marked : ℕ → List ℕ → Bool
 marked first d = sameBytes (take 4 d) (head first) && sameBytes (take 16 (drop 14 d)) (replicate 16 0xFF)
 
