@@ -1,23 +1,23 @@
 -- What reading a sheet answers, way by way.
 use Prim.Native.Nat.{ℕ}
-use mathlib.Core.Bool.{Bool, Bool-set, true, false, cond, _&&_}
+use mathlib.Core.Bool.{Bool, Bool-set, true, false, _&&_}
 use mathlib.Core.HLevel.{isProp→PathP}
 use mathlib.Core.List.{List}
-use mathlib.Core.Logic.{_⊎_, inl, inr, ⊎-elim}
+use mathlib.Core.Logic.{inl, inr, ⊎-elim}
 use mathlib.Core.Path.{_≡_, refl, sym, ap, ap₂, _∙_}
 use lib.ListN.{take, drop, replicate}
 use Rattle.format.specs.Laws.{format-fault}
 use Rattle.medium.specs.declared.faults.Refusal.the-variants.{BrokenLayout, WrongSectorCount}
-use Rattle.pointers.proofs.Ruled.{fits-sized, one-last, rules-of, sized, valid-from}
+use Rattle.pointers.proofs.Ruled.{fits-sized, rules-of, sized, valid-from}
 use Rattle.pointers.specs.Places.{first-track}
 use Rattle.pointers.specs.Reading.{Sheet-read, Sheet-refused, Sheet-rules, broken-layout, given-that, layout-read, sheet-read, wrong-size}
-use Rattle.pointers.specs.Rules.{Sized, fits-format, last-track, layout-valid}
+use Rattle.pointers.specs.Rules.{fits-format, last-track, layout-valid}
 use Rattle.pointers.specs.Sheets.{Marked, head, layout-in, marked}
 use Rattle.pointers.specs.declared.layout.Layout.{Layout}
 use Rattle.pointers.specs.declared.pointers.Pointers.{Pointers}
 use Rattle.std.proofs.shelf.Equals.{sameBytes-decides}
 use Rattle.std.proofs.shelf.Tests.{and-from, and-parts, both-ways, cases-bool, cond-false, cond-true, false≢true}
-use Rattle.std.specs.declared.result.Result.the-variants.{Ok, Err}
+use Rattle.std.specs.declared.result.Result.the-variants.{Ok}
 use Rattle.std.specs.shelf.Text.{sameBytes}
 
 marked-so : (first : ℕ) (d : List ℕ) → marked first d ≡ true → Marked first d

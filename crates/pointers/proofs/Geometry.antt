@@ -1,8 +1,7 @@
 -- Homes and spares lie apart, inside the data zone and the secondary area.
-use Prim.Native.Nat.{ℕ, zero, suc, _+_, _-_, _*_, _/_, _%_, _<_, _≤_}
-use mathlib.Core.Path.{_≡_, refl, sym, ap, ap₂, subst, _∙_}
-use mathlib.Core.Bool.{Bool, true, false, cond}
-use mathlib.Core.List.{List, List·Memᴰ}
+use Prim.Native.Nat.{ℕ, _+_, _-_, _*_, _/_, _%_, _<_, _≤_}
+use mathlib.Core.Path.{_≡_, refl, sym, ap, ap₂, _∙_}
+use mathlib.Core.List.{List·Memᴰ}
 use mathlib.Core.Logic.{_⊎_, inl, inr, ⊎-elim}
 use native.Mathlib.Nat.{mul-add}
 use native.Mathlib.Omega.{arith}
@@ -14,7 +13,7 @@ use Rattle.pointers.specs.Rules.{Layout-rules, Secondary-tracks, last-track}
 use Rattle.pointers.specs.declared.layout.Layout.{Layout}
 use Rattle.pointers.specs.declared.pointers.Pointers.{Pointers}
 use Rattle.std.proofs.shelf.Bits.{div-mul-add, mod-mul-add, div-below, mod-below, div-add-mod', mul-add-lt}
-use Rattle.std.proofs.shelf.Tests.{cases-bool, cond-true, cond-false, eq-eqb, ne-eqb, cases-eq}
+use Rattle.std.proofs.shelf.Tests.{cases-bool, cond-true, cond-false, eq-eqb, cases-eq}
 
 pub start-low : (l : Layout) → 93 ≤ data-start l
 unfolding data-start

@@ -1,16 +1,15 @@
 -- The tests of a layout say whether it keeps the rules.
-use Prim.Native.Nat.{ℕ, _+_, _-_, _*_, _/_, _%_, _<_, _≤_}
-use mathlib.Core.Path.{_≡_, refl, sym, ap, _∙_}
-use mathlib.Core.Bool.{Bool, true, false, cond, _&&_, _||_}
-use mathlib.Core.Logic.{_⊎_, inl, inr, ⊎-elim}
+use Prim.Native.Nat.{ℕ, _+_, _-_, _*_, _/_, _%_, _≤_}
+use mathlib.Core.Path.{_≡_, sym, ap, _∙_}
+use mathlib.Core.Bool.{true, false, _&&_, _||_}
+use mathlib.Core.Logic.{inl, inr, ⊎-elim}
 use native.Mathlib.Omega.{arith}
 use lib.Dec.{eqb, leb}
-use Rattle.pointers.specs.Places.{first-track, data-start, width, groups-end}
+use Rattle.pointers.specs.Places.{first-track, groups-end}
 use Rattle.pointers.specs.Rules.{Layout-rules, Secondary-area, Secondary-behind, Secondary-tracks, Sized, counts-valid, fits-format, groups-valid, last-track, layout-valid, secondary-valid}
 use Rattle.pointers.specs.declared.layout.Layout.{Layout}
 use Rattle.pointers.specs.declared.pointers.Pointers.{Pointers}
 use Rattle.std.proofs.shelf.Tests.{and-parts, and-from, or-left, or-right, or-cases, leb-true, eqb-true, le-leb, eq-eqb, ne-eqb, cases-bool, both-ways, cond-true, cond-false, eqb-false}
-use Rattle.std.specs.Orderings.{Decides}
 
 -- the size
 pub sized : (p : ℕ) → fits-format p ≡ true → Sized p (last-track p)
@@ -31,10 +30,6 @@ fits-sized p n s =
     let a : 217 ≤ p = omega arith in
     let b : p ≤ 620000 = omega arith in
     and-from (eqb (p % 31) 0) (leb 217 p && leb p 620000) (eq-eqb _ _ w) (and-from (leb 217 p) (leb p 620000) (le-leb _ _ a) (le-leb _ _ b))
-
--- a medium has one last track
-pub one-last : (p n : ℕ) → Sized p n → last-track p ≡ n
-one-last p n s = let e = s .whole in omega arith
 
 module _ (n : ℕ) (l : Layout) where
   area-of : secondary-valid n l ≡ true → Secondary-area n l
@@ -104,7 +99,7 @@ module _ (n : ℕ) (l : Layout) where
       let groups : groups-valid n l ≡ true = and-from _ _ (le-leb _ _ (r .before-copies)) (⊎-elim front behind (cases-bool (eqb (l .secondary) 0 || eqb (l .start) 3))) in
       and-from _ _ counts (and-from _ _ (area-valid (r .area)) groups)
 
--- the first track of the data zone fits a byte
+-- the first track of the data zone is low, and fits a byte
 pub first-track-low : (l : Layout) → first-track l ≤ 3 + l .secondary / 31
 first-track-low l =
     ⊎-elim (λ t. let e : first-track l ≡ 3 + l .secondary / 31 = cond-true _ _ _ t in omega arith) (λ t. let e : first-track l ≡ 3 = cond-false _ _ _ t in omega arith) (cases-bool (eqb (l .start) 3))

@@ -1,9 +1,9 @@
 -- The sheet of a layout, written field by field, and read again.
-use Prim.Native.Nat.{ℕ, _+_, _-_, _*_, _/_, _%_, _<_, _≤_}
-use mathlib.Core.Bool.{Bool, true, false, cond, _&&_}
-use mathlib.Core.List.{List, [], _∷_, _++_}
-use mathlib.Core.Logic.{_⊎_, inl, inr, ⊎-elim}
-use mathlib.Core.Path.{_≡_, refl, sym, ap, ap₂, _∙_}
+use Prim.Native.Nat.{ℕ, _+_, _*_, _/_, _%_, _≤_}
+use mathlib.Core.Bool.{true}
+use mathlib.Core.List.{List, _++_}
+use mathlib.Core.Logic.{⊎-elim}
+use mathlib.Core.Path.{_≡_, refl, sym, ap, _∙_}
 use lib.ListN.{length, take, drop, replicate}
 use native.Mathlib.Omega.{arith}
 use Rattle.pointers.proofs.Answered.{reads}
@@ -12,7 +12,7 @@ use Rattle.pointers.proofs.Ruled.{rules-of, size-held}
 use Rattle.pointers.specs.Places.{first-track}
 use Rattle.pointers.specs.Reading.{sheet-read}
 use Rattle.pointers.specs.Rules.{Layout-rules, Secondary-tracks, last-track, layout-valid}
-use Rattle.pointers.specs.Sheets.{four-at, four-bytes, head, layout-in, marked, sheet-of, two-at, two-bytes}
+use Rattle.pointers.specs.Sheets.{four-bytes, head, layout-in, marked, sheet-of, two-bytes}
 use Rattle.pointers.specs.declared.layout.Layout.{Layout}
 use Rattle.pointers.specs.declared.pointers.Pointers.{Pointers}
 use Rattle.std.proofs.shelf.Bits.{mul-le}

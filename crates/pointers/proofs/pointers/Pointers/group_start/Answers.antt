@@ -1,6 +1,6 @@
 use native.Mathlib.Omega.{arith}
 use Rattle.pointers.proofs.Geometry.{group-below}
-use Rattle.pointers.proofs.Ruled.{rules-held, size-held}
+use Rattle.pointers.proofs.Ruled.{rules-held}
 use Rattle.pointers.proofs.pointers.Pointers.group_start.Needs as need
 
 pub add-result : need.add-result
