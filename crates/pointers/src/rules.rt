@@ -15,7 +15,7 @@ use crate::tracks::start_of;
 
 impl Layout {
     // The first track of the data zone: behind the secondary area, where that comes first.
-    pub fn first_track(&self) -> u32
+    pub(crate) fn first_track(&self) -> u32
         ensures { λ r. ⌜ r ≡ first-track (now (self .entry)) ⌝ }
     {
         if self.start == FIRST_FREE_TRACK {
@@ -77,7 +77,7 @@ impl Layout {
     }
 
     // Whether the layout keeps every rule on a medium with this last track.
-    pub fn is_valid(&self, last: u32) -> bool
+    pub(crate) fn is_valid(&self, last: u32) -> bool
         requires { ⌜ 2 ≤ last ⌝ ∗ ⌜ last ≤ 19999 ⌝ }
         ensures { λ r. ⌜ r ≡ layout-valid last (now (self .entry)) ⌝ }
     {
