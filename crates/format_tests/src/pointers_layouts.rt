@@ -1,5 +1,4 @@
 // Format A: which layouts are read, and where their blocks lie.
-use medium::Fault;
 use pointers::Pointers;
 use std::test::*;
 
@@ -7,6 +6,7 @@ use std::test::*;
 const NONE: u32 = 0xFFFF_FFFF;
 
 // What a sheet says, but for the bytes that are the same in all.
+#[derive(Clone, Copy)]
 struct Numbers {
     first_data_track: u8,
     groups: u16,
