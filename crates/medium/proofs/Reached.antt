@@ -56,12 +56,6 @@ module _ (s : List Sector) (p i : ℕ) (image : List ℕ) (row : length s ≡ p)
   at-row = ap (λ n. reaching n i (length image)) (sym row)
 
   module _ (f : Fault) (e : Err f ≡ reaching p i (length image)) where
-    pub reading-refused : Err f ≡ reading s i (length image)
-    reading-refused = answer-refused (reaches (length s) i (length image)) _ f _ (e ∙ at-row)
-
-    pub image-refused : image ≡ image-after s i image
-    image-refused = rest-refused (reaches (length s) i (length image)) _ f image _ (e ∙ at-row)
-
     pub burning-refused : Err f ≡ burning s i (length image)
     burning-refused = answer-refused (reaches (length s) i (length image)) _ f _ (e ∙ at-row)
 

@@ -6,7 +6,7 @@ use mathlib.Core.List.{List}
 use lib.Dec.{eqb}
 use lib.ListN.{length}
 use native.Mathlib.Omega.{arith}
-use Rattle.medium.proofs.Reached.{burning-as, burning-refused, image-as, image-refused, in-reach, out-of-reach, reading-as, reading-refused, sectors-as, sectors-refused, whole-image, within}
+use Rattle.medium.proofs.Reached.{burning-as, burning-refused, image-as, in-reach, out-of-reach, reading-as, sectors-as, sectors-refused, whole-image, within}
 use Rattle.medium.specs.Calls.{burning, filled, image-after, reaches, reaching, reading, sectors-after, shown, verdict}
 use Rattle.medium.specs.Faults.{medium-fault}
 use Rattle.medium.specs.declared.faults.Fault.{Fault}
@@ -36,9 +36,6 @@ module _ (p : Plate) (i : ℕ) (image : List ℕ) where
   row = length-plate xs (vec-items (p .flaws)) (p .count)
 
   module _ (f : Fault) (e : Err f ≡ reaching (p .count) i (length image)) where
-    pub read-refused : (Err f ≡ reading s i (length image)) × (image ≡ image-after s i image)
-    read-refused = (reading-refused s (p .count) i image row f e, image-refused s (p .count) i image row f e)
-
     pub burn-refused : (Err f ≡ burning s i (length image)) × (s ≡ sectors-after s i image) × (xs ≡ bytes-after xs (p .count) i image)
     burn-refused = (
       burning-refused s (p .count) i image row f e,

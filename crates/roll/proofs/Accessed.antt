@@ -6,7 +6,7 @@ use mathlib.Core.List.{List}
 use lib.Dec.{eqb}
 use lib.ListN.{getD, length, set}
 use native.Mathlib.Omega.{arith}
-use Rattle.medium.proofs.Reached.{burning-as, burning-refused, image-as, image-refused, in-reach, out-of-reach, reading-as, reading-refused, sectors-as, sectors-refused, whole-image, within}
+use Rattle.medium.proofs.Reached.{burning-as, burning-refused, image-as, in-reach, out-of-reach, reading-as, sectors-as, sectors-refused, whole-image, within}
 use Rattle.medium.specs.Calls.{burning, filled, image-after, reaches, reaching, reading, sectors-after, shown, verdict}
 use Rattle.medium.specs.Faults.{medium-fault}
 use Rattle.medium.specs.Sectors.{Sector, blank, burnt, is-blank, sector-at}
@@ -45,9 +45,6 @@ module _ (m : Roll) (i : ℕ) (image : List ℕ) where
   row = length-roll xs p
 
   module _ (f : Fault) (e : Err f ≡ reaching p i (length image)) where
-    pub read-refused : (Err f ≡ reading s i (length image)) × (image ≡ image-after s i image)
-    read-refused = (reading-refused s p i image row f e, image-refused s p i image row f e)
-
     pub burn-refused : (Err f ≡ burning s i (length image)) × (s ≡ sectors-after s i image) × (xs ≡ bytes-after xs p u i image)
     burn-refused = (
       burning-refused s p i image row f e,

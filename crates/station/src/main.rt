@@ -17,6 +17,7 @@ use std::alloc::Global;
 use std::error::AnyError;
 
 mod evening;
+mod layouts;
 mod report;
 
 // Enough for the evening, and eight to spare.
@@ -46,15 +47,11 @@ fn run(rt: &LibcRuntime) -> Result<(), AnyError> {
     let plan = evening::plan(rt.alloc(), SECTORS)?;
     let on_plate = test_plate(rt, plan.as_slice())?;
     let on_roll = test_roll(rt, plan.as_slice())?;
-    if agree(&on_plate, &on_roll) {
-        println!(
-            rt,
-            "Plate and roll agree on every burn and on every reading"
-        )?;
-        Ok(())
-    } else {
-        Err("plate and roll do not agree".into())
+    if !agree(&on_plate, &on_roll) {
+        return Err("plate and roll do not agree".into());
     }
+    println!(rt, "Plate and roll agree on every burn and on every reading")?;
+    layouts::print_layouts(rt)
 }
 
 fn test_plate(rt: &LibcRuntime, plan: &[Burn]) -> Result<Account, AnyError> {

@@ -1,17 +1,9 @@
 use mathlib.Core.Path.{sym, ap, _∙_}
 use mathlib.Core.Bool.{true, false}
-use Rattle.plate.proofs.Accessed.{read-blank, read-burnt, read-refused}
+use Rattle.plate.proofs.Accessed.{read-blank, read-burnt}
 use Rattle.plate.specs.Cells.{image-at, mark-at}
 use Rattle.plate.specs.Flaws.{covered}
-use Rattle.std.proofs.shelf.Results.{err-from-errBy}
-use Rattle.std.specs.declared.result.Result.the-variants.{Err}
 use Rattle.plate.proofs.plates.access.PlateMedium.read.Needs as need
-
-pub returns-in-Break-reach : need.returns-in-Break-reach
-returns-in-Break-reach c =
-    let out = err-from-errBy (c .from-residual .result) (c .from-residual .ensures .1) in
-    let r = read-refused (c .args .self .now) (c .args .sector) (c .args .image .now) (c .in-Break-reach .field-0 .0) (c .in-Break-reach .ensures tt) in
-    record { answer = out .1 ∙ ap Err (out .2) ∙ r .0; image = r .1 }
 
 pub returns-then-mark-of-eq-BLANK : need.returns-then-mark-of-eq-BLANK
 returns-then-mark-of-eq-BLANK c =

@@ -1,0 +1,5 @@
+pub mod Places
+pub mod Rules
+pub mod Sheets
+pub mod Reading
+pub mod Areas
