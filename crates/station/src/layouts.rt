@@ -1,6 +1,7 @@
 // One layout of each format, by its areas in rising order, as a person would want to see them.
 use format::address_of;
-use pointers::Area;
+use maps::Maps;
+use maps::Use;
 use pointers::Pointers;
 use pointers::PointersAddressing;
 use pointers::Purpose;
@@ -10,8 +11,12 @@ use std::fmt;
 // Ten tracks of 31 sectors.
 const POINTERS_SECTORS: u32 = 310;
 
+// Twenty tracks of 32 sectors, and two before them.
+const MAPS_SECTORS: u32 = 704;
+
 pub(crate) fn print_layouts(rt: &LibcRuntime) -> Result<(), AnyError> {
-    print_pointers(rt)
+    print_pointers(rt)?;
+    print_maps(rt)
 }
 
 // Two groups of 40 homes and 5 spares, and a track of secondary spares behind them.
@@ -27,19 +32,51 @@ fn print_pointers(rt: &LibcRuntime) -> Result<(), AnyError> {
         return Err("the layout of Format A was refused".into());
     };
     let blocks = layout.block_count();
-    println!(rt, "A layout of Format A on {POINTERS_SECTORS} sectors: {blocks} blocks")?;
+    println!(
+        rt,
+        "A layout of Format A on {POINTERS_SECTORS} sectors: {blocks} blocks, by track/sector"
+    )?;
     for area in layout.areas(rt.alloc())?.iter() {
-        let Area {
-            first,
-            last,
-            purpose,
-        } = *area;
-        let from = OnTrack(first);
-        let to = OnTrack(last);
-        let purpose = InWords(purpose);
+        let from = OnTrack(area.first);
+        let to = OnTrack(area.last);
+        let purpose = InWords(area.purpose);
         println!(rt, "  {from} to {to}: {purpose}")?;
     }
     Ok(())
+}
+
+// A band with four prime tracks, and an overflow band.
+fn maps_sheet() -> [u8; 512] {
+    let mut sheet = [0xFF; 512];
+    sheet[0..15].copy_from_slice(&[0, 0, 2, 0, 8, 0, 4, 0, 0, 0, 4, 0, 16, 0, 12]);
+    sheet
+}
+
+fn print_maps(rt: &LibcRuntime) -> Result<(), AnyError> {
+    let Ok(layout) = Maps::read(MAPS_SECTORS, &maps_sheet()) else {
+        return Err("the layout of Format B was refused".into());
+    };
+    let blocks = layout.block_count();
+    println!(
+        rt,
+        "A layout of Format B on {MAPS_SECTORS} sectors: {blocks} blocks"
+    )?;
+    for area in layout.areas(rt.alloc())?.iter() {
+        let first = area.first;
+        let last = area.last;
+        let used = word(area.used);
+        let band = area.band;
+        println!(rt, "  tracks {first} to {last}: {used} area of band {band}")?;
+    }
+    Ok(())
+}
+
+fn word(used: Use) -> &'static str {
+    match used {
+        Use::Map => "map",
+        Use::Alternative => "alternative",
+        Use::Prime => "prime",
+    }
 }
 
 // A sector of Format A as track and place.

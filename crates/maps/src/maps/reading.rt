@@ -1,7 +1,6 @@
 // Reading a layout from its sheet.
 ghost use lib.ListN.{length};
 ghost use mathlib.Core.Path.{_≡_};
-ghost use Rattle.format.specs.Laws.{format-fault};
 ghost use Rattle.maps.specs.Reading.{Layout-read, Layout-refused, fitting, layout-answer, reading-layout};
 ghost use Rattle.std.specs.Results.{Cases};
 use crate::bands::SECTORS_PER_TRACK;
@@ -10,8 +9,8 @@ use crate::maps::Maps;
 use crate::rules::is_valid;
 use crate::sheet::is_identified;
 use crate::sheet::layout_in;
+use format::fault;
 use medium::Fault;
-use medium::Layer;
 use medium::MOST_SECTORS;
 use medium::Refusal;
 
@@ -26,16 +25,6 @@ fn is_fitting(sectors: u32) -> bool
     (sectors % SECTORS_PER_TRACK == 0) & ((FEWEST_SECTORS <= sectors) & (sectors <= MOST_SECTORS))
 }
 
-fn refused(refusal: Refusal) -> Fault
-    ensures { λ r. ⌜ r ≡ format-fault refusal 0 ⌝ }
-{
-    Fault {
-        refusal,
-        layer: Layer::Format,
-        place: 0,
-    }
-}
-
 impl Maps {
     // The layout that a sheet gives to a medium of so many sectors, if they fit the format and it keeps the rules.
     pub fn read(sectors: u32, sheet: &[u8]) -> Result<Maps, Fault>
@@ -44,11 +33,11 @@ impl Maps {
         ensures rules { λ r. ⌜ Cases r (Layout-read sectors (now (sheet .entry))) (Layout-refused sectors (now (sheet .entry))) ⌝ }
     {
         if !is_fitting(sectors) {
-            return Err(refused(Refusal::WrongSectorCount));
+            return Err(fault(Refusal::WrongSectorCount, 0));
         }
         let layout = layout_in(sectors / SECTORS_PER_TRACK - TRACKS_BEFORE_END, sheet);
         if !(is_identified(sheet) & is_valid(&layout)) {
-            return Err(refused(Refusal::BrokenLayout));
+            return Err(fault(Refusal::BrokenLayout, 0));
         }
         Ok(Maps { layout })
     }

@@ -3,7 +3,6 @@ ghost use mathlib.Core.Bool.{_&&_};
 ghost use mathlib.Core.Path.{_≡_};
 ghost use Prim.Native.Nat.{_≤_};
 ghost use lib.ListN.{length};
-ghost use Rattle.format.specs.Laws.{format-fault};
 ghost use Rattle.pointers.specs.Places.{first-track};
 ghost use Rattle.pointers.specs.Reading.{Sheet-read, Sheet-refused, sheet-read};
 ghost use Rattle.pointers.specs.Rules.{fits-format, layout-valid};
@@ -16,20 +15,9 @@ use crate::layout::MOST_TRACKS;
 use crate::layout::SECTORS_A_TRACK;
 use crate::pointers::Pointers;
 use crate::sheet::is_marked;
+use format::fault;
 use medium::Fault;
-use medium::Layer;
 use medium::Refusal;
-
-// A refusal that the format finds, at no place in particular.
-fn refused(refusal: Refusal) -> Fault
-    ensures { λ r. ⌜ r ≡ format-fault refusal 0 ⌝ }
-{
-    Fault {
-        refusal,
-        layer: Layer::Format,
-        place: 0,
-    }
-}
 
 // Whether a medium of so many sectors fits the format: whole tracks, neither too few nor too many.
 fn fits_format(sectors: u32) -> bool
@@ -55,12 +43,12 @@ impl Pointers {
         ensures meaning { λ r. ⌜ Cases r (Sheet-read sectors (now (sheet .entry))) (Sheet-refused sectors (now (sheet .entry))) ⌝ }
     {
         if !fits_format(sectors) {
-            return Err(refused(Refusal::WrongSectorCount));
+            return Err(fault(Refusal::WrongSectorCount, 0));
         }
         let last = sectors / SECTORS_A_TRACK - 1;
         let layout = Layout::in_sheet(sheet);
         if !stands(&layout, last, sheet) {
-            return Err(refused(Refusal::BrokenLayout));
+            return Err(fault(Refusal::BrokenLayout, 0));
         }
         Ok(Pointers { sectors, layout })
     }

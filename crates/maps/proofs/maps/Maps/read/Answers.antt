@@ -8,7 +8,7 @@ use Rattle.maps.specs.Sheets.{identified}
 use Rattle.maps.proofs.maps.Maps.read.Needs as need
 
 pub returns-then-not-is-fitting : need.returns-then-not-is-fitting
-returns-then-not-is-fitting c = record { answer = unfitting (c .args .sectors) (c .args .sheet .now) _ (c .if-not-is-fitting .ensures tt) (c .refused .ensures); rules = refused-size (c .args .sectors) (c .args .sheet .now) _ (c .if-not-is-fitting .ensures tt) (c .refused .ensures) }
+returns-then-not-is-fitting c = record { answer = unfitting (c .args .sectors) (c .args .sheet .now) _ (c .if-not-is-fitting .ensures tt) (c .fault .ensures); rules = refused-size (c .args .sectors) (c .args .sheet .now) _ (c .if-not-is-fitting .ensures tt) (c .fault .ensures) }
 
 pub is-valid-requires : need.is-valid-requires
 is-valid-requires c κs = read-laid (c .args .sectors) (c .args .sheet .now) _ (c .if-not-is-fitting .ensures tt) (c .layout-in-layout .ensures)
@@ -19,7 +19,7 @@ tested r s i v e f = cc
 
 pub returns-then-not-is-identified-is-valid : need.returns-then-not-is-identified-is-valid
 returns-then-not-is-identified-is-valid c =
-    record { answer = broken (c .args .sectors) (c .args .sheet .now) _ _ (c .if-not-is-fitting .ensures tt) (c .layout-in-layout .ensures) (tested _ _ _ _ (c .is-identified .ensures) (c .is-valid .ensures) ∙ c .if-not-is-identified-is-valid .taken) (c .refused-then-not-is-identified-is-valid .ensures); rules = refused-rules (c .args .sectors) (c .args .sheet .now) _ _ (c .if-not-is-fitting .ensures tt) (c .layout-in-layout .ensures) (tested _ _ _ _ (c .is-identified .ensures) (c .is-valid .ensures) ∙ c .if-not-is-identified-is-valid .taken) (c .refused-then-not-is-identified-is-valid .ensures) }
+    record { answer = broken (c .args .sectors) (c .args .sheet .now) _ _ (c .if-not-is-fitting .ensures tt) (c .layout-in-layout .ensures) (tested _ _ _ _ (c .is-identified .ensures) (c .is-valid .ensures) ∙ c .if-not-is-identified-is-valid .taken) (c .fault-then-not-is-identified-is-valid .ensures); rules = refused-rules (c .args .sectors) (c .args .sheet .now) _ _ (c .if-not-is-fitting .ensures tt) (c .layout-in-layout .ensures) (tested _ _ _ _ (c .is-identified .ensures) (c .is-valid .ensures) ∙ c .if-not-is-identified-is-valid .taken) (c .fault-then-not-is-identified-is-valid .ensures) }
 
 pub ghost-result : need.ghost-result
 ghost-result c =
