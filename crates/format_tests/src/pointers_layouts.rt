@@ -76,10 +76,7 @@ fn sizes() -> Result<(), Fail> {
 }
 
 fn with_spares(spares: u32) -> Numbers {
-    Numbers {
-        spares,
-        ..SMALLEST
-    }
+    Numbers { spares, ..SMALLEST }
 }
 
 fn with_secondary(spares: u32) -> Numbers {
@@ -96,7 +93,9 @@ fn with_secondary(spares: u32) -> Numbers {
 fn spares() -> Result<(), Fail> {
     check_eq(refusal_for(3100, sheet(with_spares(1024))), 0).note("1,024 spares of a group")?;
     check_eq(refusal_for(3100, sheet(with_spares(1025))), 8).note("1,025 spares of a group")?;
-    check_eq(refusal_for(3100, sheet(with_secondary(1))), 0).note("1,023 secondary spares and one")?;
+    check_eq(refusal_for(3100, sheet(with_secondary(1))), 0).note(
+        "1,023 secondary spares and one",
+    )?;
     check_eq(refusal_for(3100, sheet(with_secondary(2))), 8).note("1,023 secondary spares and two")
 }
 
@@ -123,7 +122,9 @@ fn fixed_bytes() -> Result<(), Fail> {
         check_eq(refusal_for(EXAMPLE_SECTORS, example_with(at, 0)), 8).note("a fixed byte")?;
     }
     for at in [38, 511] {
-        check_eq(refusal_for(EXAMPLE_SECTORS, example_with(at, 0)), 0).note("a byte that is ignored")?;
+        check_eq(refusal_for(EXAMPLE_SECTORS, example_with(at, 0)), 0).note(
+            "a byte that is ignored",
+        )?;
     }
     Ok(())
 }

@@ -27,7 +27,10 @@ fn print_pointers(rt: &LibcRuntime) -> Result<(), AnyError> {
         return Err("the layout of Format A was refused".into());
     };
     let blocks = layout.block_count();
-    println!(rt, "A layout of Format A on {POINTERS_SECTORS} sectors: {blocks} blocks")?;
+    println!(
+        rt,
+        "A layout of Format A on {POINTERS_SECTORS} sectors: {blocks} blocks"
+    )?;
     for area in layout.areas(rt.alloc())?.iter() {
         let Area {
             first,

@@ -50,7 +50,10 @@ fn run(rt: &LibcRuntime) -> Result<(), AnyError> {
     if !agree(&on_plate, &on_roll) {
         return Err("plate and roll do not agree".into());
     }
-    println!(rt, "Plate and roll agree on every burn and on every reading")?;
+    println!(
+        rt,
+        "Plate and roll agree on every burn and on every reading"
+    )?;
     layouts::print_layouts(rt)
 }
 
