@@ -1,2 +1,4 @@
 #[cfg(test)]
+mod maps_layouts;
+#[cfg(test)]
 mod pointers_layouts;
