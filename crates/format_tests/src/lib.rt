@@ -2,4 +2,6 @@
 #[cfg(test)]
 mod maps_layouts;
 #[cfg(test)]
+mod maps_layouts;
+#[cfg(test)]
 mod pointers_layouts;

@@ -1,8 +1,8 @@
 // Format B: which layouts are read, and where their areas and blocks lie.
 use maps::Maps;
-use maps::Use;
-use maps::bands::UseDebug;
-use maps::bands::UsePartialEq;
+use maps::Purpose;
+use maps::bands::PurposeDebug;
+use maps::bands::PurposePartialEq;
 use std::alloc::AllocError;
 use std::alloc::Global;
 use std::test::*;
@@ -108,21 +108,21 @@ fn counts(rt: LibcRuntime) -> Result<(), Fail> {
 }
 
 // First and last track, band and use, in rising order.
-const FULL_AREAS: [(u32, u32, u8, Use); 14] = [
-    (0, 4989, 1, Use::Prime),
-    (4990, 4993, 1, Use::Alternative),
-    (4994, 9983, 2, Use::Prime),
-    (9984, 9987, 2, Use::Alternative),
-    (9988, 9991, 1, Use::Map),
-    (9992, 9995, 2, Use::Map),
-    (9996, 9999, 3, Use::Map),
-    (10000, 10003, 4, Use::Map),
-    (10004, 10007, 5, Use::Map),
-    (10008, 10011, 5, Use::Alternative),
-    (10012, 15001, 3, Use::Prime),
-    (15002, 15005, 3, Use::Alternative),
-    (15006, 19995, 4, Use::Prime),
-    (19996, 19999, 4, Use::Alternative),
+const FULL_AREAS: [(u32, u32, u8, Purpose); 14] = [
+    (0, 4989, 1, Purpose::Prime),
+    (4990, 4993, 1, Purpose::Alternative),
+    (4994, 9983, 2, Purpose::Prime),
+    (9984, 9987, 2, Purpose::Alternative),
+    (9988, 9991, 1, Purpose::Map),
+    (9992, 9995, 2, Purpose::Map),
+    (9996, 9999, 3, Purpose::Map),
+    (10000, 10003, 4, Purpose::Map),
+    (10004, 10007, 5, Purpose::Map),
+    (10008, 10011, 5, Purpose::Alternative),
+    (10012, 15001, 3, Purpose::Prime),
+    (15002, 15005, 3, Purpose::Alternative),
+    (15006, 19995, 4, Purpose::Prime),
+    (19996, 19999, 4, Purpose::Alternative),
 ];
 
 #[test]
@@ -140,7 +140,7 @@ fn full_size(rt: LibcRuntime) -> Result<(), Fail> {
         check_eq(area.first, expected.0)?;
         check_eq(area.last, expected.1)?;
         check_eq(area.band, expected.2)?;
-        check_eq(area.used, expected.3)?;
+        check_eq(area.purpose, expected.3)?;
     }
     Ok(())
 }

@@ -9,10 +9,10 @@ use lib.Dec.{eqb, leb, ltb}
 use lib.ListN.{length, getD}
 use Rattle.format.specs.Laws.{format-fault}
 use Rattle.maps.specs.Places.{band-formed, bands-of, no-band, valid, whole-tracks}
-use Rattle.maps.specs.Reading.{fitting, last-track, reading-layout}
+use Rattle.maps.specs.Reading.{fits-format, last-track, reading-layout}
 use Rattle.maps.specs.Sheets.{band-at, band-count, band-or-none, first-sector, first-track, identified, layout-in, overflow-entry, prime-tracks}
 use Rattle.maps.specs.declared.bands.Layout.{Layout}
-use Rattle.maps.specs.declared.bands.Use.the-variants.{Prime}
+use Rattle.maps.specs.declared.bands.Purpose.the-variants.{Prime}
 use Rattle.medium.specs.declared.faults.Fault.{Fault}
 use Rattle.medium.specs.declared.faults.Refusal.the-variants.{WrongSectorCount, BrokenLayout}
 use Rattle.std.proofs.shelf.Counted.{getD-map-counting, length-map-counting, take-map-counting}
@@ -23,24 +23,24 @@ use Rattle.std.specs.declared.result.Result.{Result}
 use Rattle.std.specs.declared.result.Result.the-variants.{Ok, Err}
 
 -- what reading answers, in its three ways
-pub unfitting : (p : ℕ) (d : List ℕ) (f : Fault) → false ≡ fitting p → f ≡ format-fault WrongSectorCount 0 → _≡_ {A = Result Layout Fault} (Err f) (reading-layout p d)
+pub unfitting : (p : ℕ) (d : List ℕ) (f : Fault) → false ≡ fits-format p → f ≡ format-fault WrongSectorCount 0 → _≡_ {A = Result Layout Fault} (Err f) (reading-layout p d)
 unfolding reading-layout
-unfitting p d f t e = ap Err e ∙ sym (cond-false (fitting p) _ _ (sym t))
+unfitting p d f t e = ap Err e ∙ sym (cond-false (fits-format p) _ _ (sym t))
 
-pub broken : (p : ℕ) (d : List ℕ) (l : Layout) (f : Fault) → true ≡ fitting p → l ≡ layout-in (last-track p) d → (identified d && valid l) ≡ false → f ≡ format-fault BrokenLayout 0 → _≡_ {A = Result Layout Fault} (Err f) (reading-layout p d)
+pub broken : (p : ℕ) (d : List ℕ) (l : Layout) (f : Fault) → true ≡ fits-format p → l ≡ layout-in (last-track p) d → (identified d && valid l) ≡ false → f ≡ format-fault BrokenLayout 0 → _≡_ {A = Result Layout Fault} (Err f) (reading-layout p d)
 unfolding reading-layout
 broken p d l f t e v g =
     let w : (identified d && valid (layout-in (last-track p) d)) ≡ false = ap (λ k. identified d && valid k) (sym e) ∙ v in
-    ap Err g ∙ sym (cond-true (fitting p) _ _ (sym t) ∙ cond-false (identified d && valid (layout-in (last-track p) d)) _ _ w)
+    ap Err g ∙ sym (cond-true (fits-format p) _ _ (sym t) ∙ cond-false (identified d && valid (layout-in (last-track p) d)) _ _ w)
 
-pub kept : (p : ℕ) (d : List ℕ) (l : Layout) → true ≡ fitting p → l ≡ layout-in (last-track p) d → (identified d && valid l) ≡ true → _≡_ {A = Result Layout Fault} (Ok l) (reading-layout p d)
+pub kept : (p : ℕ) (d : List ℕ) (l : Layout) → true ≡ fits-format p → l ≡ layout-in (last-track p) d → (identified d && valid l) ≡ true → _≡_ {A = Result Layout Fault} (Ok l) (reading-layout p d)
 unfolding reading-layout
 kept p d l t e v =
     let w : (identified d && valid (layout-in (last-track p) d)) ≡ true = ap (λ k. identified d && valid k) (sym e) ∙ v in
-    ap Ok e ∙ sym (cond-true (fitting p) _ _ (sym t) ∙ cond-true (identified d && valid (layout-in (last-track p) d)) _ _ w)
+    ap Ok e ∙ sym (cond-true (fits-format p) _ _ (sym t) ∙ cond-true (identified d && valid (layout-in (last-track p) d)) _ _ w)
 
 -- a fitting number of sectors gives a last track from 8 to 19,999
-pub fitting-tracks : (p : ℕ) → fitting p ≡ true → (8 ≤ last-track p) × (last-track p ≤ 19999) × (p ≡ 32 * (last-track p + 3))
+pub fitting-tracks : (p : ℕ) → fits-format p ≡ true → (8 ≤ last-track p) × (last-track p ≤ 19999) × (p ≡ 32 * (last-track p + 3))
 fitting-tracks p t =
     let h = and-parts (eqb (p % 32) 0) (leb 352 p && leb p 640064) t in
     let k = and-parts (leb 352 p) (leb p 640064) (h .1) in
@@ -49,7 +49,7 @@ fitting-tracks p t =
     let high : p ≤ 640064 = leb-true _ _ (k .1) in
     (omega arith, omega arith, omega arith)
 
-pub tracks-fitting : (n : ℕ) → 8 ≤ n → n ≤ 19999 → (fitting (32 * (n + 3)) ≡ true) × (last-track (32 * (n + 3)) ≡ n)
+pub tracks-fitting : (n : ℕ) → 8 ≤ n → n ≤ 19999 → (fits-format (32 * (n + 3)) ≡ true) × (last-track (32 * (n + 3)) ≡ n)
 tracks-fitting n low high =
     let z : 32 * (n + 3) % 32 ≡ 0 = omega arith in
     let a : 352 ≤ 32 * (n + 3) = omega arith in
@@ -103,7 +103,7 @@ formed-bands n d k =
     (cases-lt k 8)
 
 -- what is known of a layout that a fitting number of sectors and a sheet gave
-pub read-laid : (p : ℕ) (d : List ℕ) (l : Layout) → true ≡ fitting p → l ≡ layout-in (last-track p) d → (8 ≤ l .last) × ((l .last ≤ 19999) × (length (l .bands) ≡ 8))
+pub read-laid : (p : ℕ) (d : List ℕ) (l : Layout) → true ≡ fits-format p → l ≡ layout-in (last-track p) d → (8 ≤ l .last) × ((l .last ≤ 19999) × (length (l .bands) ≡ 8))
 unfolding layout-in
 read-laid p d l t e =
     let h = fitting-tracks p (sym t) in

@@ -12,8 +12,8 @@ use Rattle.maps.specs.Homes.{Homes-placed}
 use Rattle.maps.specs.Places.{In-area, band-of, band-stands, bands-apart, bands-of, bands-stand, block-count, blocks, home, home-in, no-band, overflow, sectors-for, valid}
 use Rattle.maps.specs.declared.bands.Band.{Band}
 use Rattle.maps.specs.declared.bands.Layout.{Layout}
-use Rattle.maps.specs.declared.bands.Use.{Use}
-use Rattle.maps.specs.declared.bands.Use.the-variants.{Prime}
+use Rattle.maps.specs.declared.bands.Purpose.{Purpose}
+use Rattle.maps.specs.declared.bands.Purpose.the-variants.{Prime}
 use Rattle.std.proofs.shelf.Lists.{at-drop-all, drop-more, getD-take, length-take-le}
 use Rattle.std.proofs.shelf.Tests.{and-parts, both-ways, cases-lt, cases-order, cond-false, cond-true, le-ltb, leb-true, lt-ltb, ltb-true, ne-eqb, or-cases}
 
@@ -95,7 +95,7 @@ module _ (end : ℕ) where
       (cases-lt c (x .homes))
 
   -- a sector lies in one area at most
-  pub one-place : (bs : List Band) → bands-stand end bs ≡ true → (k j : ℕ) (a b : Use) (i : ℕ) → k < length bs → j < length bs → In-area (getD bs k no-band) a i → In-area (getD bs j no-band) b i → (k ≡ j) × (a ≡ b)
+  pub one-place : (bs : List Band) → bands-stand end bs ≡ true → (k j : ℕ) (a b : Purpose) (i : ℕ) → k < length bs → j < length bs → In-area (getD bs k no-band) a i → In-area (getD bs j no-band) b i → (k ≡ j) × (a ≡ b)
   one-place bs t k j a b i h m p q =
       ⊎-elim
       (λ (e : k ≡ j). (e, one-area end (getD bs k no-band) (stands end _ (each-stands end bs t k h)) a b i p (subst (λ n. In-area (getD bs n no-band) b i) (sym e) q)))

@@ -15,7 +15,7 @@ use Rattle.maps.specs.Places.{bands-of, no-band, overflow, valid}
 use Rattle.maps.specs.declared.areas.Area.{Area}
 use Rattle.maps.specs.declared.bands.Band.{Band}
 use Rattle.maps.specs.declared.bands.Layout.{Layout}
-use Rattle.maps.specs.declared.bands.Use.the-variants.{Map, Alternative, Prime}
+use Rattle.maps.specs.declared.bands.Purpose.the-variants.{Map, Alternative, Prime}
 use Rattle.std.proofs.shelf.Lists.{append-nil, getD-past, getD-take}
 use Rattle.std.proofs.shelf.Tests.{cases-lt, cond-false, cond-true, eq-eqb, false≢true, ne-eqb, true≢false}
 use Rattle.std.specs.Options.{isSome}

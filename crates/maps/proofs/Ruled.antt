@@ -12,8 +12,8 @@ use Rattle.maps.proofs.Standing.{Stands, all-stand, apart-by, each-stands, hom
 use Rattle.maps.specs.Places.{In-area, apart, band-stands, bands-apart, bands-of, bands-stand, block-count, first-of, inside, no-band, overflow, rises-to, sectors-for, size-of, valid}
 use Rattle.maps.specs.Rules.{Has-prime, Layout-rules, Lies-in, tracks-of}
 use Rattle.maps.specs.Sheets.{band-at, band-count, first-sector, first-track, identified, layout-in, overflow-entry, prime-tracks}
-use Rattle.maps.specs.declared.bands.Use.{Use}
-use Rattle.maps.specs.declared.bands.Use.the-variants.{Map, Alternative, Prime}
+use Rattle.maps.specs.declared.bands.Purpose.{Purpose}
+use Rattle.maps.specs.declared.bands.Purpose.the-variants.{Map, Alternative, Prime}
 use Rattle.std.proofs.shelf.Tests.{and-from, and-parts, both-ways, cases-bool, cases-lt, cases-order, cond-both, cond-false, cond-true, eq-eqb, eqb-true, le-leb, leb-true, lt-ltb, ltb-true, ne-eqb, or-cases, or-left, or-right}
 
 -- the first sector of a track that a medium may have, and of one that it may not
@@ -52,7 +52,7 @@ alternative-prime e = let z : _≡_ {A = ℕ} 0 1 = cc in omega arith
 
 module _ (n : ℕ) (d : List ℕ) (small : n ≤ 19999) where
   -- the area of band k for the use a, in sectors and in tracks
-  pub record Area-at (k : ℕ) (a : Use) : Type 0 where
+  pub record Area-at (k : ℕ) (a : Purpose) : Type 0 where
     pub first : first-of (band-at d k) a ≡ 32 * (first-track d k a + 2)
     pub size : size-of (band-at d k) a ≡ 32 * tracks-of d k a
     pub end : first-track d k a + tracks-of d k a ≤ n + 1
@@ -78,7 +78,7 @@ module _ (n : ℕ) (d : List ℕ) (small : n ≤ 19999) where
   spares-first k = refl
 
   -- a band that stands has its areas where the sheet says
-  stood : (k : ℕ) → Stands (sectors-for n) (band-at d k) → (a : Use) → 1 ≤ tracks-of d k a → Area-at k a
+  stood : (k : ℕ) → Stands (sectors-for n) (band-at d k) → (a : Purpose) → 1 ≤ tracks-of d k a → Area-at k a
   stood k s Map h =
       let hi = s .map-high in
       let e = map-first k in
@@ -106,7 +106,7 @@ module _ (n : ℕ) (d : List ℕ) (small : n ≤ 19999) where
       (cases-bool (overflow-entry d k))
 
   -- a track of an area is a sector of it
-  lies : (k : ℕ) (a : Use) (t : ℕ) → Lies-in d k a t → Area-at k a → In-area (band-at d k) a (32 * (t + 2))
+  lies : (k : ℕ) (a : Purpose) (t : ℕ) → Lies-in d k a t → Area-at k a → In-area (band-at d k) a (32 * (t + 2))
   lies k a t l r =
       let f = r .first in
       let s = r .size in
@@ -114,21 +114,21 @@ module _ (n : ℕ) (d : List ℕ) (small : n ≤ 19999) where
       let before = l .before in
       (omega arith, omega arith)
 
-  some-tracks : (k : ℕ) (a : Use) (t : ℕ) → Lies-in d k a t → 1 ≤ tracks-of d k a
+  some-tracks : (k : ℕ) (a : Purpose) (t : ℕ) → Lies-in d k a t → 1 ≤ tracks-of d k a
   some-tracks k a t l = let from = l .from in let before = l .before in omega arith
 
   module _ (each : (k : ℕ) → k < band-count d → Stands (sectors-for n) (band-at d k)) (two : (k j : ℕ) → k < j → j < band-count d → bands-apart (band-at d k) (band-at d j) ≡ true) where
-    in-band : (k : ℕ) (a : Use) (t : ℕ) → Lies-in d k a t → In-area (band-at d k) a (32 * (t + 2))
+    in-band : (k : ℕ) (a : Purpose) (t : ℕ) → Lies-in d k a t → In-area (band-at d k) a (32 * (t + 2))
     in-band k a t l = lies k a t l (stood k (each k (l .band)) a (some-tracks k a t l))
 
-    inside-rule : (k : ℕ) (a : Use) (t : ℕ) → Lies-in d k a t → t ≤ n
+    inside-rule : (k : ℕ) (a : Purpose) (t : ℕ) → Lies-in d k a t → t ≤ n
     inside-rule k a t l =
         let r = stood k (each k (l .band)) a (some-tracks k a t l) in
         let e = r .end in
         let before = l .before in
         omega arith
 
-    disjoint-rule : (k j : ℕ) (a b : Use) (t : ℕ) → Lies-in d k a t → Lies-in d j b t → (k ≡ j) × (a ≡ b)
+    disjoint-rule : (k j : ℕ) (a b : Purpose) (t : ℕ) → Lies-in d k a t → Lies-in d j b t → (k ≡ j) × (a ≡ b)
     disjoint-rule k j a b t l m =
         ⊎-elim
         (λ (e : k ≡ j). (e, one-area _ (band-at d k) (each k (l .band)) a b (32 * (t + 2)) (in-band k a t l) (subst (λ i. In-area (band-at d i) b (32 * (t + 2))) (sym e) (in-band j b t m))))
@@ -203,7 +203,7 @@ module _ (n : ℕ) (d : List ℕ) (small : n ≤ 19999) where
       }
 
   module _ (low : 8 ≤ n) (r : Layout-rules n d) where
-    last-lies : (k : ℕ) (a : Use) → k < band-count d → 1 ≤ tracks-of d k a → first-track d k a + tracks-of d k a ≤ n + 1
+    last-lies : (k : ℕ) (a : Purpose) → k < band-count d → 1 ≤ tracks-of d k a → first-track d k a + tracks-of d k a ≤ n + 1
     last-lies k a h some =
         let last : Lies-in d k a (first-track d k a + tracks-of d k a - 1) = record { band = h; from = omega arith; before = omega arith } in
         let le = r .inside k a (first-track d k a + tracks-of d k a - 1) last in
@@ -212,7 +212,7 @@ module _ (n : ℕ) (d : List ℕ) (small : n ≤ 19999) where
     prime-count : (k : ℕ) → overflow-entry d k ≡ false → tracks-of d k Prime ≡ prime-tracks d k
     prime-count k o = cond-false (overflow-entry d k) 0 (prime-tracks d k) o
 
-    pub kept-area : (k : ℕ) (a : Use) → k < band-count d → 1 ≤ tracks-of d k a → Area-at k a
+    pub kept-area : (k : ℕ) (a : Purpose) → k < band-count d → 1 ≤ tracks-of d k a → Area-at k a
     kept-area k Map h some =
         let e = last-lies k Map h some in
         record { first = map-first k ∙ first-near (first-track d k Map) (omega arith); size = refl; end = e }
@@ -227,7 +227,7 @@ module _ (n : ℕ) (d : List ℕ) (small : n ≤ 19999) where
         (cases-bool (overflow-entry d k))
 
     -- an area without tracks is the prime area of an overflow band
-    none-there : (k : ℕ) (a : Use) → k < band-count d → tracks-of d k a ≤ 0 → (first-of (band-at d k) a ≡ 0) × (size-of (band-at d k) a ≡ 0)
+    none-there : (k : ℕ) (a : Purpose) → k < band-count d → tracks-of d k a ≤ 0 → (first-of (band-at d k) a ≡ 0) × (size-of (band-at d k) a ≡ 0)
     none-there k Map h z = absurd (omega arith)
     none-there k Alternative h z = absurd (omega arith)
     none-there k Prime h z =
@@ -237,7 +237,7 @@ module _ (n : ℕ) (d : List ℕ) (small : n ≤ 19999) where
         (cases-bool (overflow-entry d k))
 
     -- two areas with tracks that are not one have no sector in common
-    tracks-apart : (k j : ℕ) (a b : Use) → k < band-count d → j < band-count d → (k ≡ j → a ≡ b → ⊥) → Area-at k a → Area-at j b → 1 ≤ tracks-of d k a → 1 ≤ tracks-of d j b → apart-by (band-at d k) a (band-at d j) b ≡ true
+    tracks-apart : (k j : ℕ) (a b : Purpose) → k < band-count d → j < band-count d → (k ≡ j → a ≡ b → ⊥) → Area-at k a → Area-at j b → 1 ≤ tracks-of d k a → 1 ≤ tracks-of d j b → apart-by (band-at d k) a (band-at d j) b ≡ true
     tracks-apart k j a b h m other p q some more =
         let pf = p .first in
         let ps = p .size in
@@ -264,7 +264,7 @@ module _ (n : ℕ) (d : List ℕ) (small : n ≤ 19999) where
         (λ (l : first-track d j b + tracks-of d j b ≤ first-track d k a). behind (first-of (band-at d k) a) (size-of (band-at d k) a) (first-of (band-at d j) b) (size-of (band-at d j) b) (omega arith))
         (cases-lt (first-track d k a) (first-track d j b + tracks-of d j b))
 
-    areas-apart : (k j : ℕ) (a b : Use) → k < band-count d → j < band-count d → (k ≡ j → a ≡ b → ⊥) → apart-by (band-at d k) a (band-at d j) b ≡ true
+    areas-apart : (k j : ℕ) (a b : Purpose) → k < band-count d → j < band-count d → (k ≡ j → a ≡ b → ⊥) → apart-by (band-at d k) a (band-at d j) b ≡ true
     areas-apart k j a b h m other =
         ⊎-elim
         (λ some.
@@ -275,7 +275,7 @@ module _ (n : ℕ) (d : List ℕ) (small : n ≤ 19999) where
         (λ none. let z = none-there k a h none in let f = z .0 in let s = z .1 in before (first-of (band-at d k) a) (size-of (band-at d k) a) (first-of (band-at d j) b) (size-of (band-at d j) b) (omega arith))
         (cases-lt 0 (tracks-of d k a))
 
-    area-inside : (k : ℕ) (a : Use) → k < band-count d → 1 ≤ tracks-of d k a → inside (sectors-for n) (first-of (band-at d k) a) (size-of (band-at d k) a) ≡ true
+    area-inside : (k : ℕ) (a : Purpose) → k < band-count d → 1 ≤ tracks-of d k a → inside (sectors-for n) (first-of (band-at d k) a) (size-of (band-at d k) a) ≡ true
     area-inside k a h some =
         let p = kept-area k a h some in
         let f = p .first in

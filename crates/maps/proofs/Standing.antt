@@ -9,11 +9,11 @@ use lib.Dec.{eqb, leb}
 use lib.ListN.{length, getD}
 use Rattle.maps.specs.Places.{In-area, apart, apart-from-all, area-apart, band-stands, bands-apart, bands-stand, block-count, first-of, inside, no-band, overflow, rises-to, size-of}
 use Rattle.maps.specs.declared.bands.Band.{Band}
-use Rattle.maps.specs.declared.bands.Use.{Use}
-use Rattle.maps.specs.declared.bands.Use.the-variants.{Map, Alternative, Prime}
+use Rattle.maps.specs.declared.bands.Purpose.{Purpose}
+use Rattle.maps.specs.declared.bands.Purpose.the-variants.{Map, Alternative, Prime}
 use Rattle.std.proofs.shelf.Tests.{and-from, and-parts, cases-lt, cond-false, leb-true, ne-eqb, or-cases}
 
-abbrev pub apart-by : Band → Use → Band → Use → Bool
+abbrev pub apart-by : Band → Purpose → Band → Purpose → Bool
 apart-by x a y b = apart (first-of x a) (size-of x a) (first-of y b) (size-of y b)
 
 never-both : (a m c n i : ℕ) → apart a m c n ≡ true → (a ≤ i) × (i < a + m) → (c ≤ i) × (i < c + n) → ⊥
@@ -24,7 +24,7 @@ never-both a m c n i t p q =
     let q1 = q .1 in
     ⊎-elim (λ u. let k : a + m ≤ c = leb-true _ _ u in omega arith) (λ u. let k : c + n ≤ a = leb-true _ _ u in omega arith) (or-cases (leb (a + m) c) (leb (c + n) a) t)
 
-area-by : (a n : ℕ) (y : Band) → area-apart a n y ≡ true → (b : Use) → apart a n (first-of y b) (size-of y b) ≡ true
+area-by : (a n : ℕ) (y : Band) → area-apart a n y ≡ true → (b : Purpose) → apart a n (first-of y b) (size-of y b) ≡ true
 area-by a n y t Map = and-parts (apart a n (y .maps) 128) _ t .0
 area-by a n y t Alternative = and-parts (apart a n (y .spares) 128) _ (and-parts (apart a n (y .maps) 128) _ t .1) .0
 area-by a n y t Prime = and-parts (apart a n (y .spares) 128) _ (and-parts (apart a n (y .maps) 128) _ t .1) .1
@@ -34,7 +34,7 @@ pub pair-rises : (x y : Band) → bands-apart x y ≡ true → rises-to x y ≡ 
 unfolding bands-apart
 pair-rises x y t = and-parts (rises-to x y) _ t .0
 
-pub pair-by : (x y : Band) → bands-apart x y ≡ true → (a b : Use) → apart-by x a y b ≡ true
+pub pair-by : (x y : Band) → bands-apart x y ≡ true → (a b : Purpose) → apart-by x a y b ≡ true
 unfolding bands-apart
 pair-by x y t Map b = area-by _ _ y (and-parts (area-apart (x .maps) 128 y) _ (and-parts (rises-to x y) _ t .1) .0) b
 pair-by x y t Alternative b =
@@ -42,13 +42,13 @@ pair-by x y t Alternative b =
 pair-by x y t Prime b =
     area-by _ _ y (and-parts (area-apart (x .spares) 128 y) _ (and-parts (area-apart (x .maps) 128 y) _ (and-parts (rises-to x y) _ t .1) .1) .1) b
 
-pub pair-from : (x y : Band) → rises-to x y ≡ true → ((a b : Use) → apart-by x a y b ≡ true) → bands-apart x y ≡ true
+pub pair-from : (x y : Band) → rises-to x y ≡ true → ((a b : Purpose) → apart-by x a y b ≡ true) → bands-apart x y ≡ true
 unfolding bands-apart
 pair-from x y t f =
-    let area : (a : Use) → area-apart (first-of x a) (size-of x a) y ≡ true = λ a. and-from _ _ (f a Map) (and-from _ _ (f a Alternative) (f a Prime)) in
+    let area : (a : Purpose) → area-apart (first-of x a) (size-of x a) y ≡ true = λ a. and-from _ _ (f a Map) (and-from _ _ (f a Alternative) (f a Prime)) in
     and-from _ _ t (and-from _ _ (area Map) (and-from _ _ (area Alternative) (area Prime)))
 
-pub pair-separate : (x y : Band) → bands-apart x y ≡ true → (a b : Use) (i : ℕ) → In-area x a i → In-area y b i → ⊥
+pub pair-separate : (x y : Band) → bands-apart x y ≡ true → (a b : Purpose) (i : ℕ) → In-area x a i → In-area y b i → ⊥
 pair-separate x y t a b i p q = never-both _ _ _ _ i (pair-by x y t a b) p q
 
 inside-parts : (end a k : ℕ) → inside end a k ≡ true → (64 ≤ a) × (a + k ≤ end)
@@ -93,7 +93,7 @@ primes-inside end x s h =
     inside-parts end (x .first) (x .homes) (sym (cond-false (overflow x) _ _ (ne-eqb _ _ n)) ∙ s .primes)
 
 -- a sector lies in one area of a band at most
-pub one-area : (end : ℕ) (x : Band) → Stands end x → (a b : Use) (i : ℕ) → In-area x a i → In-area x b i → a ≡ b
+pub one-area : (end : ℕ) (x : Band) → Stands end x → (a b : Purpose) (i : ℕ) → In-area x a i → In-area x b i → a ≡ b
 one-area end x s Map Map i p q = refl
 one-area end x s Map Alternative i p q = absurd (never-both _ _ _ _ i (s .map-spares) p q)
 one-area end x s Map Prime i p q = absurd (never-both _ _ _ _ i (s .map-primes) p q)

@@ -10,7 +10,7 @@ use Rattle.format.specs.Laws.{format-fault}
 use Rattle.maps.proofs.Formed.{band-in, fitting-tracks, tracks-fitting}
 use Rattle.maps.proofs.Ruled.{kept-area, no-prime, rules-kept, rules-pass}
 use Rattle.maps.specs.Places.{band-of, first-of, no-band, size-of, valid}
-use Rattle.maps.specs.Reading.{Last-track, Layout-given, Layout-refused, fitting, last-track}
+use Rattle.maps.specs.Reading.{Last-track, Layout-given, Sheet-refused, fits-format, last-track}
 use Rattle.maps.specs.Rules.{Layout-rules}
 use Rattle.maps.specs.Sheets.{band-at, band-count, band-or-none, identified, layout-in}
 use Rattle.maps.specs.declared.bands.Layout.{Layout}
@@ -20,13 +20,13 @@ use Rattle.std.proofs.shelf.Lists.{getD-past}
 use Rattle.std.proofs.shelf.Tests.{both-ways, cases-lt, cond-false, cond-true, le-ltb, lt-ltb}
 use Rattle.std.specs.Iters.{counting}
 
-last-of : (p : ℕ) → true ≡ fitting p → Last-track p (last-track p)
+last-of : (p : ℕ) → true ≡ fits-format p → Last-track p (last-track p)
 last-of p t = let h = fitting-tracks p (sym t) in record { low = h .0; high = h .1; sectors = h .2 }
 
-pub refused-size : (p : ℕ) (d : List ℕ) (f : Fault) → false ≡ fitting p → f ≡ format-fault WrongSectorCount 0 → Layout-refused p d f
-refused-size p d f t e = inl (e, λ n l. both-ways _ (ap fitting (sym (l .sectors)) ∙ sym t) (tracks-fitting n (l .low) (l .high) .0))
+pub refused-size : (p : ℕ) (d : List ℕ) (f : Fault) → false ≡ fits-format p → f ≡ format-fault WrongSectorCount 0 → Sheet-refused p d f
+refused-size p d f t e = inl (e, λ n l. both-ways _ (ap fits-format (sym (l .sectors)) ∙ sym t) (tracks-fitting n (l .low) (l .high) .0))
 
-pub refused-rules : (p : ℕ) (d : List ℕ) (l : Layout) (f : Fault) → true ≡ fitting p → l ≡ layout-in (last-track p) d → (identified d && valid l) ≡ false → f ≡ format-fault BrokenLayout 0 → Layout-refused p d f
+pub refused-rules : (p : ℕ) (d : List ℕ) (l : Layout) (f : Fault) → true ≡ fits-format p → l ≡ layout-in (last-track p) d → (identified d && valid l) ≡ false → f ≡ format-fault BrokenLayout 0 → Sheet-refused p d f
 refused-rules p d l f t e v g =
     let n = last-track p in
     let z = last-of p t in
@@ -58,7 +58,7 @@ module _ (n : ℕ) (d : List ℕ) (r : Layout-rules n d) (high : n ≤ 19999) (l
       }
 
 -- the three parts of a layout that was read
-pub read-as : (p : ℕ) (d : List ℕ) (l : Layout) → true ≡ fitting p → l ≡ layout-in (last-track p) d → (identified d && valid l) ≡ true → Last-track p (l .last) × Layout-rules (l .last) d × Layout-given (l .last) d l
+pub read-as : (p : ℕ) (d : List ℕ) (l : Layout) → true ≡ fits-format p → l ≡ layout-in (last-track p) d → (identified d && valid l) ≡ true → Last-track p (l .last) × Layout-rules (l .last) d × Layout-given (l .last) d l
 unfolding layout-in
 read-as p d l t e v =
     let n = last-track p in

@@ -15,8 +15,8 @@ use Rattle.maps.specs.Places.{In-area, band-formed, band-of, bands-of, first-o
 use Rattle.maps.specs.declared.areas.Area.{Area}
 use Rattle.maps.specs.declared.bands.Band.{Band}
 use Rattle.maps.specs.declared.bands.Layout.{Layout}
-use Rattle.maps.specs.declared.bands.Use.{Use}
-use Rattle.maps.specs.declared.bands.Use.the-variants.{Map, Alternative, Prime}
+use Rattle.maps.specs.declared.bands.Purpose.{Purpose}
+use Rattle.maps.specs.declared.bands.Purpose.the-variants.{Map, Alternative, Prime}
 use Rattle.medium.specs.Order.{Rising}
 use Rattle.std.proofs.shelf.Lists.{append-nil, getD-append-left, getD-push, getD-take, length-push, map-push}
 use Rattle.std.proofs.shelf.Tests.{and-from, and-parts, cases-bool, cases-eq, cases-lt, eq-eqb, eqb-true, not-from-false, not-true}
@@ -24,15 +24,15 @@ use Rattle.std.specs.declared.option.Option.{Option}
 use Rattle.std.specs.declared.option.Option.the-variants.{Some, None}
 
 -- the area of x for the use a begins on track t
-abbrev Starts : Band → Use → ℕ → Type 0
+abbrev Starts : Band → Purpose → ℕ → Type 0
 Starts x a t = (first-of x a ≡ 32 * (t + 2)) × (1 ≤ size-of x a)
 
 -- area r of band number k begins on track t
 record Begun (k : ℕ) (x : Band) (t : ℕ) (r : Area) : Type 0 where
   pub band : r .band ≡ k
   pub first : r .first ≡ t
-  pub last : r .last ≡ t + (size-of x (r .used) - 1) / 32
-  pub starts : Starts x (r .used) t
+  pub last : r .last ≡ t + (size-of x (r .purpose) - 1) / 32
+  pub starts : Starts x (r .purpose) t
 
 some-none : (r : Area) (o : Option Area) → o ≡ Some r → o ≡ None → ⊥
 some-none r o p q = let z : _≡_ {A = ℕ} 0 1 = cc in omega arith
@@ -41,7 +41,7 @@ same-some : (r s : Area) (o : Option Area) → o ≡ Some r → o ≡ Some s →
 same-some r s o p q = cc
 
 module _ (k : ℕ) (x : Band) (t : ℕ) where
-  begun-as : (a : Use) (r : Area) → Starts x a t → begun-in k x t ≡ Some (area-from k x a t) → begun-in k x t ≡ Some r → Begun k x t r
+  begun-as : (a : Purpose) (r : Area) → Starts x a t → begun-in k x t ≡ Some (area-from k x a t) → begun-in k x t ≡ Some r → Begun k x t r
   begun-as a r s e f = subst (Begun k x t) (same-some (area-from k x a t) r (begun-in k x t) e f) (record { band = refl; first = refl; last = refl; starts = s })
 
   prime-test : (overflow x ≡ true → ⊥) → x .first ≡ 32 * (t + 2) → (not (overflow x) && eqb (x .first) (32 * (t + 2))) ≡ true
@@ -66,7 +66,7 @@ module _ (k : ℕ) (x : Band) (t : ℕ) where
       (cases-eq (x .spares) (32 * (t + 2))))
       (cases-eq (x .maps) (32 * (t + 2)))
 
-  in-none : (a : Use) → begun-in k x t ≡ None → Starts x a t → ⊥
+  in-none : (a : Purpose) → begun-in k x t ≡ None → Starts x a t → ⊥
   in-none a f s =
       ⊎-elim
       (λ (m : x .maps ≡ 32 * (t + 2)). some-none _ (begun-in k x t) (begun-map k x t m) f)
@@ -77,7 +77,7 @@ module _ (k : ℕ) (x : Band) (t : ℕ) where
       (cases-eq (x .spares) (32 * (t + 2))))
       (cases-eq (x .maps) (32 * (t + 2)))
     where
-      third : (b : Use) → Starts x b t → (x .maps ≡ 32 * (t + 2) → ⊥) → (x .spares ≡ 32 * (t + 2) → ⊥) → ⊥
+      third : (b : Purpose) → Starts x b t → (x .maps ≡ 32 * (t + 2) → ⊥) → (x .spares ≡ 32 * (t + 2) → ⊥) → ⊥
       third Map w m u = m (w .0)
       third Alternative w m u = u (w .0)
       third Prime w m u =
@@ -100,7 +100,7 @@ all-sound n (x ∷ xs) t r f = by (begun-in n x t) refl f (λ g. all-sound (n + 
         let z : n + 1 + m .0 ≡ n + suc (m .0) = omega arith in
         (suc (m .0), omega arith, subst (λ i. Begun i (getD xs (m .0) no-band) t r) z (m .2))
 
-all-none : (n : ℕ) (bs : List Band) (t j : ℕ) (a : Use) → begun n bs t ≡ None → j < length bs → Starts (getD bs j no-band) a t → ⊥
+all-none : (n : ℕ) (bs : List Band) (t j : ℕ) (a : Purpose) → begun n bs t ≡ None → j < length bs → Starts (getD bs j no-band) a t → ⊥
 all-none n [] t j a f h s = absurd (omega arith)
 all-none n (x ∷ xs) t j a f h s = by (begun-in n x t) refl f j h s (λ g i l w. all-none (n + 1) xs t i a g l w)
   where
@@ -130,7 +130,7 @@ below-push xs y below k h =
 abbrev firsts : List Area → List ℕ
 firsts rs = map (λ r. r .first) rs
 
-whole-by : (x : Band) → whole-tracks x ≡ true → (b : Use) → (first-of x b % 32 ≡ 0) × (size-of x b % 32 ≡ 0)
+whole-by : (x : Band) → whole-tracks x ≡ true → (b : Purpose) → (first-of x b % 32 ≡ 0) × (size-of x b % 32 ≡ 0)
 whole-by x w Map =
     let two = and-parts (eqb (x .maps % 32) 0 && eqb (x .spares % 32) 0) (eqb (x .first % 32) 0 && eqb (x .homes % 32) 0) w in
     (eqb-true _ _ (and-parts (eqb (x .maps % 32) 0) (eqb (x .spares % 32) 0) (two .0) .0), refl)
@@ -143,7 +143,7 @@ whole-by x w Prime =
     (eqb-true _ _ (h .0), eqb-true _ _ (h .1))
 
 -- the area of a band that stands lies within the tracks
-area-within : (end : ℕ) (x : Band) → Stands end x → (a : Use) → 1 ≤ size-of x a → (64 ≤ first-of x a) × (first-of x a + size-of x a ≤ end)
+area-within : (end : ℕ) (x : Band) → Stands end x → (a : Purpose) → 1 ≤ size-of x a → (64 ≤ first-of x a) × (first-of x a + size-of x a ≤ end)
 area-within end x s Map h = (s .map-low, s .map-high)
 area-within end x s Alternative h = (s .spares-low, s .spares-high)
 area-within end x s Prime h = primes-inside end x s h
@@ -165,7 +165,7 @@ module _ (l : Layout) (kept : valid l ≡ true) (eight : length (l .bands) ≡ 8
           let same : firsts (areas-before l t) ≡ firsts (areas-before l t ++ []) = ap firsts (sym (append-nil (areas-before l t))) in
           (subst Rising same (p .0), subst (λ ys. (k : ℕ) → k < length ys → getD ys k 0 < suc t) same (λ k h. let b = p .1 k h in omega arith))
 
-  whole-size : (k : ℕ) (a : Use) → (first-of (band-of l k) a % 32 ≡ 0) × (size-of (band-of l k) a % 32 ≡ 0)
+  whole-size : (k : ℕ) (a : Purpose) → (first-of (band-of l k) a % 32 ≡ 0) × (size-of (band-of l k) a % 32 ≡ 0)
   whole-size k a = whole-by (band-of l k) (and-parts (whole-tracks (band-of l k)) (ltb k (l .count) || unused (band-of l k)) (formed k) .0) a
 
   told : (t : ℕ) (r : Area) → begun 1 (bands-of l) t ≡ Some r → Area-told l r
@@ -178,18 +178,18 @@ module _ (l : Layout) (kept : valid l ≡ true) (eight : length (l .bands) ≡ 8
       let g = subst (λ x. Begun (1 + j) x t r) (used j known) (s .2) in
       let number = g .band in
       let back : r .band - 1 ≡ j = omega arith in
-      let whole = whole-size j (r .used) .1 in
+      let whole = whole-size j (r .purpose) .1 in
       let track = g .first in
       let behind = g .last in
       let start = g .starts .0 in
       let some = g .starts .1 in
-      let end : first-of (band-of l j) (r .used) + size-of (band-of l j) (r .used) ≡ 32 * (r .last + 3) = omega arith in
-      let begin : first-of (band-of l j) (r .used) ≡ 32 * (r .first + 2) = omega arith in
+      let end : first-of (band-of l j) (r .purpose) + size-of (band-of l j) (r .purpose) ≡ 32 * (r .last + 3) = omega arith in
+      let begin : first-of (band-of l j) (r .purpose) ≡ 32 * (r .first + 2) = omega arith in
       record {
         some-band = omega arith;
         known-band = omega arith;
-        begins = subst (λ i. first-of (band-of l i) (r .used) ≡ 32 * (r .first + 2)) (sym back) begin;
-        ends = subst (λ i. first-of (band-of l i) (r .used) + size-of (band-of l i) (r .used) ≡ 32 * (r .last + 3)) (sym back) end;
+        begins = subst (λ i. first-of (band-of l i) (r .purpose) ≡ 32 * (r .first + 2)) (sym back) begin;
+        ends = subst (λ i. first-of (band-of l i) (r .purpose) + size-of (band-of l i) (r .purpose) ≡ 32 * (r .last + 3)) (sym back) end;
       }
 
   each-told : (t : ℕ) (r : Area) → List·Memᴰ r (areas-before l t) → Area-told l r
@@ -208,14 +208,14 @@ module _ (l : Layout) (kept : valid l ≡ true) (eight : length (l .bands) ≡ 8
       (λ (k : suc u ≤ t). let e : t ≡ suc u = omega arith in subst (λ n. List·Memᴰ r (areas-before l n)) e m)
       (cases-lt t (suc u))
 
-  abbrev Listed-as : ℕ → ℕ → Use → Type 0
-  Listed-as t k a = (r : Area) × List·Memᴰ r (areas-before l t) × (r .band ≡ k + 1) × (r .used ≡ a)
+  abbrev Listed-as : ℕ → ℕ → Purpose → Type 0
+  Listed-as t k a = (r : Area) × List·Memᴰ r (areas-before l t) × (r .band ≡ k + 1) × (r .purpose ≡ a)
 
   -- the area that begins on its track is the one that is listed there
-  there : (k : ℕ) (a : Use) (t : ℕ) → k < l .count → Starts (getD (bands-of l) k no-band) a t → Listed-as (suc t) k a
+  there : (k : ℕ) (a : Purpose) (t : ℕ) → k < l .count → Starts (getD (bands-of l) k no-band) a t → Listed-as (suc t) k a
   there k a t h s = by (begun 1 (bands-of l) t) refl
     where
-      by : (o : Option Area) → begun 1 (bands-of l) t ≡ o → (r : Area) × List·Memᴰ r (areas-before l t ++ as-list o) × (r .band ≡ k + 1) × (r .used ≡ a)
+      by : (o : Option Area) → begun 1 (bands-of l) t ≡ o → (r : Area) × List·Memᴰ r (areas-before l t ++ as-list o) × (r .band ≡ k + 1) × (r .purpose ≡ a)
       by None e = let long = laid l kept eight .long in absurd (all-none 1 (bands-of l) t k a e (omega arith) s)
       by (Some r) e =
           let g = all-sound 1 (bands-of l) t r e in
@@ -226,13 +226,13 @@ module _ (l : Layout) (kept : valid l ≡ true) (eight : length (l .bands) ≡ 8
           let s0 = s .0 in
           let s1 = s .1 in
           let here : In-area (getD (bands-of l) k no-band) a (32 * (t + 2)) = (omega arith, omega arith) in
-          let found : In-area (getD (bands-of l) (g .0) no-band) (r .used) (32 * (t + 2)) = (omega arith, omega arith) in
-          let one = one-place (sectors-for (l .last)) (bands-of l) (laid l kept eight .stand) k (g .0) a (r .used) (32 * (t + 2)) (omega arith) (g .1) here found in
+          let found : In-area (getD (bands-of l) (g .0) no-band) (r .purpose) (32 * (t + 2)) = (omega arith, omega arith) in
+          let one = one-place (sectors-for (l .last)) (bands-of l) (laid l kept eight .stand) k (g .0) a (r .purpose) (32 * (t + 2)) (omega arith) (g .1) here found in
           let same = one .0 in
           let number = g .2 .band in
           (r, Memᴰ·append-right (areas-before l t) (List·Memᴰ·head refl), omega arith, sym (one .1))
 
-  every-listed : (k : ℕ) (a : Use) → k < l .count → 1 ≤ size-of (band-of l k) a → Listed-as (l .last + 1) k a
+  every-listed : (k : ℕ) (a : Purpose) → k < l .count → 1 ≤ size-of (band-of l k) a → Listed-as (l .last + 1) k a
   every-listed k a h some =
       let long = laid l kept eight .long in
       let e = used k h in

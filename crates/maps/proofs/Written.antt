@@ -15,7 +15,7 @@ use Rattle.maps.specs.Reading.{last-track, reading-layout}
 use Rattle.maps.specs.Sheets.{Writable, band-at, band-count, band-or-none, entry-byte, entry-number, first-sector, first-track, identified, layout-in, overflow-entry, prime-tracks, sheet-byte, sheet-of, track-of, two-at}
 use Rattle.maps.specs.declared.bands.Band.{Band}
 use Rattle.maps.specs.declared.bands.Layout.{Layout}
-use Rattle.maps.specs.declared.bands.Use.the-variants.{Map, Alternative, Prime}
+use Rattle.maps.specs.declared.bands.Purpose.the-variants.{Map, Alternative, Prime}
 use Rattle.std.proofs.shelf.Counted.{fill-by-all, getD-map-counting, length-map-counting}
 use Rattle.std.proofs.shelf.Lists.{ext-getD, getD-take}
 use Rattle.std.specs.Iters.{counting}

@@ -9,22 +9,22 @@ use Rattle.maps.specs.Places.{band-of, bands-of, first-of, no-band, overflow, 
 use Rattle.maps.specs.declared.areas.Area.{Area}
 use Rattle.maps.specs.declared.bands.Band.{Band}
 use Rattle.maps.specs.declared.bands.Layout.{Layout}
-use Rattle.maps.specs.declared.bands.Use.{Use}
-use Rattle.maps.specs.declared.bands.Use.the-variants.{Map, Alternative, Prime}
+use Rattle.maps.specs.declared.bands.Purpose.{Purpose}
+use Rattle.maps.specs.declared.bands.Purpose.the-variants.{Map, Alternative, Prime}
 use Rattle.medium.specs.Order.{Rising}
 use Rattle.std.specs.declared.option.Option.{Option}
 use Rattle.std.specs.declared.option.Option.the-variants.{Some, None}
 
 -- the area of n sectors that begins on track t
-abbrev pub area-of : ℕ → Use → ℕ → ℕ → Area
-area-of k a t n = record { first = t; last = t + (n - 1) / 32; band = k; used = a }
+abbrev pub area-of : ℕ → Purpose → ℕ → ℕ → Area
+area-of k a t n = record { first = t; last = t + (n - 1) / 32; band = k; purpose = a }
 
 -- no band has more homes than a medium has sectors
 abbrev pub Homes-few : List Band → Type 0
 Homes-few bs = (k : ℕ) → getD bs k no-band .homes ≤ 640064
 
 -- the area of band number k that begins on track t
-abbrev pub area-from : ℕ → Band → Use → ℕ → Area
+abbrev pub area-from : ℕ → Band → Purpose → ℕ → Area
 area-from k x a t = area-of k a t (size-of x a)
 
 unfoldable pub begun-in : ℕ → Band → ℕ → Option Area
@@ -59,11 +59,11 @@ all-areas l = areas-before l (l .last + 1)
 pub record Area-told (l : Layout) (r : Area) : Type 0 where
   pub some-band : 1 ≤ r .band
   pub known-band : r .band ≤ l .count
-  pub begins : first-of (band-of l (r .band - 1)) (r .used) ≡ 32 * (r .first + 2)
-  pub ends : first-of (band-of l (r .band - 1)) (r .used) + size-of (band-of l (r .band - 1)) (r .used) ≡ 32 * (r .last + 3)
+  pub begins : first-of (band-of l (r .band - 1)) (r .purpose) ≡ 32 * (r .first + 2)
+  pub ends : first-of (band-of l (r .band - 1)) (r .purpose) + size-of (band-of l (r .band - 1)) (r .purpose) ≡ 32 * (r .last + 3)
 
 -- the list has the areas of the layout and no other, in rising order
 pub record Areas-listed (l : Layout) (rs : List Area) : Type 0 where
   pub each : (r : Area) → List·Memᴰ r rs → Area-told l r
-  pub every : (k : ℕ) (a : Use) → k < l .count → 1 ≤ size-of (band-of l k) a → (r : Area) × List·Memᴰ r rs × (r .band ≡ k + 1) × (r .used ≡ a)
+  pub every : (k : ℕ) (a : Purpose) → k < l .count → 1 ≤ size-of (band-of l k) a → (r : Area) × List·Memᴰ r rs × (r .band ≡ k + 1) × (r .purpose ≡ a)
   pub rising : Rising (map (λ r. r .first) rs)

@@ -6,26 +6,26 @@ use lib.Dec.{eqb, leb, ltb}
 use lib.ListN.{getD, take}
 use Rattle.maps.specs.declared.bands.Band.{Band}
 use Rattle.maps.specs.declared.bands.Layout.{Layout}
-use Rattle.maps.specs.declared.bands.Use.{Use}
-use Rattle.maps.specs.declared.bands.Use.the-variants.{Map, Alternative, Prime}
+use Rattle.maps.specs.declared.bands.Purpose.{Purpose}
+use Rattle.maps.specs.declared.bands.Purpose.the-variants.{Map, Alternative, Prime}
 
 -- an overflow band has no home
 abbrev pub overflow : Band → Bool
 overflow x = eqb (x .homes) 0
 
 -- the first sector of an area, and how many it has
-abbrev pub first-of : Band → Use → ℕ
+abbrev pub first-of : Band → Purpose → ℕ
 first-of x Map = x .maps
 first-of x Alternative = x .spares
 first-of x Prime = x .first
 
-abbrev pub size-of : Band → Use → ℕ
+abbrev pub size-of : Band → Purpose → ℕ
 size-of x Map = 128
 size-of x Alternative = 128
 size-of x Prime = x .homes
 
 -- sector i lies in the area
-abbrev pub In-area : Band → Use → ℕ → Type 0
+abbrev pub In-area : Band → Purpose → ℕ → Type 0
 In-area x a i = (first-of x a ≤ i) × (i < first-of x a + size-of x a)
 
 -- what stands in the places of bands that are not in use

@@ -7,8 +7,8 @@ use lib.ListN.{getD}
 use Rattle.maps.specs.Places.{band-of, no-band, overflow}
 use Rattle.maps.specs.declared.bands.Band.{Band}
 use Rattle.maps.specs.declared.bands.Layout.{Layout}
-use Rattle.maps.specs.declared.bands.Use.{Use}
-use Rattle.maps.specs.declared.bands.Use.the-variants.{Map, Alternative, Prime}
+use Rattle.maps.specs.declared.bands.Purpose.{Purpose}
+use Rattle.maps.specs.declared.bands.Purpose.the-variants.{Map, Alternative, Prime}
 use Rattle.std.specs.Iters.{counting}
 
 -- bytes 0 and 1 are (00)
@@ -24,12 +24,12 @@ abbrev pub two-at : List ℕ → ℕ → ℕ
 two-at d i = getD d i 0 * 256 + getD d (i + 1) 0
 
 -- eight bytes a band, from byte 3 on: the first track of each area
-abbrev pub track-place : Use → ℕ
+abbrev pub track-place : Purpose → ℕ
 track-place Map = 3
 track-place Alternative = 5
 track-place Prime = 7
 
-unfoldable pub first-track : List ℕ → ℕ → Use → ℕ
+unfoldable pub first-track : List ℕ → ℕ → Purpose → ℕ
 first-track d k a = two-at d (8 * k + track-place a)
 
 -- and the number of prime tracks

@@ -5,12 +5,12 @@ ghost use lib.ListN.{length};
 ghost use Rattle.maps.specs.Areas.{Homes-few, area-of, begun, begun-in};
 use crate::bands::AREA_SECTORS;
 use crate::bands::Band;
+use crate::bands::Purpose;
+use crate::bands::PurposeDebug;
+use crate::bands::PurposeEq;
+use crate::bands::PurposePartialEq;
 use crate::bands::SECTORS_PER_TRACK;
 use crate::bands::TRACKS_BEFORE_ZERO;
-use crate::bands::Use;
-use crate::bands::UseDebug;
-use crate::bands::UseEq;
-use crate::bands::UsePartialEq;
 
 // An area from its first track to its last. Bands are counted from 1.
 #[derive(Clone, Copy, PartialEq, Eq, Debug)]
@@ -18,7 +18,7 @@ pub struct Area {
     pub first: u32,
     pub last: u32,
     pub band: u8,
-    pub used: Use,
+    pub purpose: Purpose,
 }
 
 // The area of a band that begins on a track, if one does.
@@ -28,26 +28,26 @@ fn begun_in(number: u8, band: Band, track: u32) -> Option<Area>
 {
     let sector = SECTORS_PER_TRACK * (track + TRACKS_BEFORE_ZERO);
     if band.maps == sector {
-        return Some(area_from(number, Use::Map, track, AREA_SECTORS));
+        return Some(area_from(number, Purpose::Map, track, AREA_SECTORS));
     }
     if band.spares == sector {
-        return Some(area_from(number, Use::Alternative, track, AREA_SECTORS));
+        return Some(area_from(number, Purpose::Alternative, track, AREA_SECTORS));
     }
     if !band.is_overflow() & (band.first == sector) {
-        return Some(area_from(number, Use::Prime, track, band.homes));
+        return Some(area_from(number, Purpose::Prime, track, band.homes));
     }
     None
 }
 
-fn area_from(band: u8, used: Use, track: u32, sectors: u32) -> Area
+fn area_from(band: u8, purpose: Purpose, track: u32, sectors: u32) -> Area
     requires { ⌜ track ≤ 19999 ⌝ ∗ ⌜ 1 ≤ sectors ⌝ ∗ ⌜ sectors ≤ 640064 ⌝ }
-    ensures { λ r. ⌜ r ≡ area-of band used track sectors ⌝ }
+    ensures { λ r. ⌜ r ≡ area-of band purpose track sectors ⌝ }
 {
     Area {
         first: track,
         last: track + (sectors - 1) / SECTORS_PER_TRACK,
         band,
-        used,
+        purpose,
     }
 }
 

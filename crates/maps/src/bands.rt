@@ -21,7 +21,7 @@ const FIRST_SECTOR: u32 = TRACKS_BEFORE_ZERO * SECTORS_PER_TRACK;
 
 // What an area is used for.
 #[derive(Clone, Copy, PartialEq, Eq, Debug)]
-pub enum Use {
+pub enum Purpose {
     Map,
     Alternative,
     Prime,

@@ -9,7 +9,7 @@ pub use areas::Area;
 pub use bands::Band;
 pub use bands::Layout;
 pub use bands::MOST_BANDS;
-pub use bands::Use;
+pub use bands::Purpose;
 pub use maps::Maps;
 pub use maps::MapsAddressing;
 pub use sheet::SHEET_BYTES;

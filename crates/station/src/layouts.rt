@@ -1,7 +1,7 @@
 // One layout of each format, by its areas in rising order, as a person would want to see them.
 use format::address_of;
 use maps::Maps;
-use maps::Use;
+use maps::Purpose as BandPurpose;
 use pointers::Pointers;
 use pointers::PointersAddressing;
 use pointers::Purpose;
@@ -64,18 +64,18 @@ fn print_maps(rt: &LibcRuntime) -> Result<(), AnyError> {
     for area in layout.areas(rt.alloc())?.iter() {
         let first = area.first;
         let last = area.last;
-        let used = word(area.used);
+        let used = word(area.purpose);
         let band = area.band;
         println!(rt, "  tracks {first} to {last}: {used} area of band {band}")?;
     }
     Ok(())
 }
 
-fn word(used: Use) -> &'static str {
-    match used {
-        Use::Map => "map",
-        Use::Alternative => "alternative",
-        Use::Prime => "prime",
+fn word(purpose: BandPurpose) -> &'static str {
+    match purpose {
+        BandPurpose::Map => "map",
+        BandPurpose::Alternative => "alternative",
+        BandPurpose::Prime => "prime",
     }
 }
 

@@ -1,7 +1,7 @@
 // Reading a layout from its sheet.
 ghost use lib.ListN.{length};
 ghost use mathlib.Core.Path.{_≡_};
-ghost use Rattle.maps.specs.Reading.{Layout-read, Layout-refused, fitting, layout-answer, reading-layout};
+ghost use Rattle.maps.specs.Reading.{Sheet-read, Sheet-refused, fits-format, layout-answer, reading-layout};
 ghost use Rattle.std.specs.Results.{Cases};
 use crate::bands::SECTORS_PER_TRACK;
 use crate::bands::TRACKS_BEFORE_END;
@@ -19,8 +19,8 @@ const LEAST_LAST_TRACK: u32 = 8;
 
 const FEWEST_SECTORS: u32 = SECTORS_PER_TRACK * (LEAST_LAST_TRACK + TRACKS_BEFORE_END);
 
-fn is_fitting(sectors: u32) -> bool
-    ensures { λ r. ⌜ r ≡ fitting sectors ⌝ }
+fn fits_format(sectors: u32) -> bool
+    ensures { λ r. ⌜ r ≡ fits-format sectors ⌝ }
 {
     (sectors % SECTORS_PER_TRACK == 0) & ((FEWEST_SECTORS <= sectors) & (sectors <= MOST_SECTORS))
 }
@@ -30,9 +30,9 @@ impl Maps {
     pub fn read(sectors: u32, sheet: &[u8]) -> Result<Maps, Fault>
         requires { ⌜ length (now sheet) ≡ 512 ⌝ }
         ensures answer { λ r. ⌜ layout-answer r ≡ reading-layout sectors (now (sheet .entry)) ⌝ }
-        ensures rules { λ r. ⌜ Cases r (Layout-read sectors (now (sheet .entry))) (Layout-refused sectors (now (sheet .entry))) ⌝ }
+        ensures rules { λ r. ⌜ Cases r (Sheet-read sectors (now (sheet .entry))) (Sheet-refused sectors (now (sheet .entry))) ⌝ }
     {
-        if !is_fitting(sectors) {
+        if !fits_format(sectors) {
             return Err(fault(Refusal::WrongSectorCount, 0));
         }
         let layout = layout_in(sectors / SECTORS_PER_TRACK - TRACKS_BEFORE_END, sheet);

@@ -7,7 +7,7 @@ use lib.Dec.{eqb}
 use Rattle.std.proofs.shelf.Tests.{cond-true, cond-false}
 use Rattle.maps.specs.Sheets.{band-at, first-sector, first-track, overflow-entry, prime-tracks, two-at}
 use Rattle.maps.specs.declared.bands.Band.{Band}
-use Rattle.maps.specs.declared.bands.Use.the-variants.{Map, Alternative, Prime}
+use Rattle.maps.specs.declared.bands.Purpose.the-variants.{Map, Alternative, Prime}
 use Rattle.maps.proofs.sheet.band_at.Needs as need
 
 -- the numbers of entry k, at the places where the code reads them
