@@ -44,7 +44,7 @@ standing-by true r = unwritten
 standing-by false (Some p) = held
 standing-by false None = lost
 
--- unwritten while its home is blank, held while it rests somewhere, lost otherwise
+-- a blank home: unwritten; a burnt home and a resting sector: held; a burnt home and none: lost
 abbrev pub standing : List Sector → List Link → ℕ → Standing
 standing s links h = standing-by (blank-at s h) (resting s links h)
 

@@ -26,10 +26,10 @@ pub record Links-sound (s : List Sector) (n : ℕ) (home : ℕ → ℕ) (links :
   -- a link is of some block's home, and no home is a spare
   pub of-a-block : (x : Link) → List·Memᴰ x links → (b : ℕ) × (b < n) × (home b ≡ x .home)
   pub no-home-a-spare : (x : Link) (b : ℕ) → List·Memᴰ x links → b < n → home b ≡ x .spare → ⊥
-  -- a sector occurs in one link at most
+  -- no home and no spare stands in two links
   pub home-once : (x y : Link) → List·Memᴰ x links → List·Memᴰ y links → x .home ≡ y .home → x ≡ y
   pub spare-once : (x y : Link) → List·Memᴰ x links → List·Memᴰ y links → x .spare ≡ y .spare → x ≡ y
-  -- a link joins a spoiled home to a sound spare
+  -- the home of a link cannot be read, and its spare can
   pub spoiled-home : (x : Link) → List·Memᴰ x links → spoiled-at s (x .home) ≡ true
   pub sound-spare : (x : Link) → List·Memᴰ x links → sound-at s (x .spare) ≡ true
 

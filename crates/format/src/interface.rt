@@ -2,7 +2,7 @@
 ghost use mathlib.Core.Bool.{Bool, false, true};
 ghost use mathlib.Core.List.{List};
 ghost use mathlib.Core.Path.{_≡_};
-ghost use Prim.Native.Nat.{ℕ, _<_};
+ghost use Prim.Native.Nat.{ℕ, _<_, _≤_};
 ghost use lib.ListN.{length};
 ghost use Rattle.format.specs.Blocks.{Link, blank-at, spare-of};
 ghost use Rattle.format.specs.Laws.{Homes-blank, Links-sound, Storing-result, storing};
@@ -40,6 +40,8 @@ pub trait Format: Addressing + Sized {
     law remounts: { (s : List Sector) (f : Self) (b : ℕ) (bytes : List ℕ) → mounting s ≡ Ok f → b < blocks f → blank-at s (home f b) ≡ true → length bytes ≡ 512 → mounting (stored f s b bytes) ≡ Ok f };
 
     law stores: { (s : List Sector) (f : Self) (b : ℕ) (bytes : List ℕ) → mounting s ≡ Ok f → b < blocks f → blank-at s (home f b) ≡ true → length bytes ≡ 512 → Storing-result s (stored f s b bytes) (blocks f) (home f) (links f s) (links f (stored f s b bytes)) b bytes (left f s b) };
+
+    law some: { (s : List Sector) (f : Self) → mounting s ≡ Ok f → 1 ≤ blocks f };
 
     // a blank sound home is a place
     law room: { (s : List Sector) (f : Self) (b : ℕ) → mounting s ≡ Ok f → b < blocks f → blank-at s (home f b) ≡ true → sector-at s (home f b) .weak ≡ false → left f s b ≡ true };

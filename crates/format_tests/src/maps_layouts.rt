@@ -10,10 +10,10 @@ use std::test::*;
 // In an overflow band, in place of the first prime track and of the number of prime tracks.
 const NONE: u16 = 0xFFFF;
 
-// First tracks of map, alternative and prime area, and the number of prime tracks.
+// An entry of the sheet: where the map, the alternatives and the primes begin, and how many prime tracks there are.
 type Entry = [u16; 4];
 
-// The cartridge of the worked examples: twenty tracks and two of layout, a band and an overflow band.
+// A small cartridge: twenty tracks and two of layout, a band and an overflow band.
 const EXAMPLE: [Entry; 2] = [[8, 4, 0, 4], [16, 12, NONE, NONE]];
 
 const EXAMPLE_SECTORS: u32 = 704;

@@ -26,7 +26,7 @@ const SMALLEST: Numbers = Numbers {
     secondary: 0,
 };
 
-// The cartridge of the worked examples: ten tracks, two groups, a track of secondary spares behind them.
+// A small cartridge: ten tracks, two groups, a track of secondary spares behind them.
 const EXAMPLE: Numbers = Numbers {
     first_data_track: 3,
     groups: 2,

@@ -29,7 +29,7 @@ pub record Layout-rules (n : ℕ) (d : List ℕ) : Type 0 where
   pub second-byte : getD d 1 0 ≡ 0
   pub some-band : 1 ≤ band-count d
   pub few-bands : band-count d ≤ 8
-  -- no area has a track behind the last; so one (FF FF) without the other breaks this rule
+  -- no area has a track behind the last; so a number (FF FF) beside another one breaks this rule, or the one on prime tracks
   pub inside : (k : ℕ) (a : Purpose) (t : ℕ) → Lies-in d k a t → t ≤ n
   -- no track lies in two areas
   pub disjoint : (k j : ℕ) (a b : Purpose) (t : ℕ) → Lies-in d k a t → Lies-in d j b t → (k ≡ j) × (a ≡ b)

@@ -22,7 +22,7 @@ impl Layer {
     }
 }
 
-// Every way in which the engine says no. A call tries those that concern it in rising order.
+// Every way in which the engine says no. Where several hold, a call answers the one with the lowest number.
 #[derive(Clone, Copy, PartialEq, Eq, Debug)]
 pub enum Refusal {
     WrongMemory = 1,

@@ -10,7 +10,7 @@ use crate::layout::Layout;
 
 pub const SHEET_BYTES: usize = 512;
 
-// Where the numbers of a layout stand, and the bytes between them that say nothing.
+// Where the numbers of a layout stand, and the fixed bytes between them.
 const GROUPS: usize = 4;
 
 const HOMES: usize = 6;
