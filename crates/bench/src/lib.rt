@@ -1,4 +1,6 @@
 // The bench test of a medium: a list of burns is asked for, and each of them is read back and compared.
+#![tactic(auto)]
+
 pub mod agreement;
 pub mod compare;
 pub mod trial;

@@ -1,5 +1,7 @@
 // What a recording format is: an addressing of sectors, and on top of it what a block's home is, which links stand
 // and whether a place is left. The volume above knows a format only through these.
+#![tactic(auto)]
+
 pub mod addressing;
 pub mod copies;
 pub mod faults;

@@ -1,4 +1,6 @@
 // The format that keeps its links in maps: how its medium is divided into bands, and where each block has its home.
+#![tactic(auto)]
+
 pub mod areas;
 pub mod bands;
 pub mod maps;

@@ -1,5 +1,7 @@
 // A write-once medium as an interface: what its sectors mean, what reading and burning them answer,
 // and how a refusal is told. Plates, rolls and everything above them cite these definitions.
+#![tactic(auto)]
+
 pub mod blank;
 pub mod faults;
 pub mod interface;

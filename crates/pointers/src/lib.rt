@@ -1,5 +1,7 @@
 // Format A, pointers: how a medium is divided into homes and spares, and the sheet of bytes that says so.
 // A spare names the home that it stands for by pointers beside its block.
+#![tactic(auto)]
+
 pub mod areas;
 pub mod layout;
 pub mod pointers;

@@ -1,4 +1,6 @@
 // Format A, pointers, on any medium: a spare names the home that it stands for by pointers beside its block.
+#![tactic(auto)]
+
 pub mod calls;
 pub mod copies;
 pub mod format_a;

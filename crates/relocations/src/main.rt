@@ -1,4 +1,6 @@
 // A cartridge of Format A with weak homes: their blocks go to spares, and each spare says for which home it stands.
+#![tactic(auto)]
+
 use anyhow::anyhow;
 use format::{Format, address_of};
 use medium::{Fault, IMAGE_BYTES, Medium, Reading};

@@ -1,5 +1,7 @@
 // The station's program. As yet it is the bench test of a cartridge, on a plate and on a roll with the same weak
 // sectors: the three runs of a ranging evening are burnt, read back and compared, and what must be refused is tried.
+#![tactic(auto)]
+
 use anyhow::anyhow;
 use bench::{Account, agree, bench_test};
 use medium::{Burn, Medium};
