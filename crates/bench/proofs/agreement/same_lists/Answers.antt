@@ -13,12 +13,12 @@ module _ {X : Type 0} (xs ys : List X) (i : ℕ) (x y : X) (in_xs : i < length x
 
 pub loop-i-preserved : goal.loop-i-preserved
 loop-i-preserved g c =
-    alike_more c.args.a.now c.args.b.now c.loop-i.i _ _ c.loop-i-test.true (omega arith) c.index-a-i.is c.index-b-i.is (c.if-not-is-same.ensures.0 refl) c.loop-i.invariant
+    alike_more c.args.a.now c.args.b.now c.loop-i.i _ _ c.loop-i-test.true (omega arith) c.index-a-i.is c.index-b-i.is (c.if-not-is_same.ensures.0 refl) c.loop-i.invariant
 
-pub returns-then-not-is-same : goal.returns-then-not-is-same
-returns-then-not-is-same g c = (
+pub returns-then-not-is_same : goal.returns-then-not-is_same
+returns-then-not-is_same g c = (
   (λ e. absurd (false≢true e)),
-  (λ e. c.if-not-is-same.ensures.1 (unlike c.args.a.now c.args.b.now c.loop-i.i _ _ c.loop-i-test.true (omega arith) c.index-a-i.is c.index-b-i.is e)),
+  (λ e. c.if-not-is_same.ensures.1 (unlike c.args.a.now c.args.b.now c.loop-i.i _ _ c.loop-i-test.true (omega arith) c.index-a-i.is c.index-b-i.is e)),
 )
 
 pub returns : goal.returns

@@ -14,9 +14,9 @@ pub loop-reading-preserved : goal.loop-reading-preserved
 loop-reading-preserved c =
     let xs = c.args.readings.now in
     let i = c.loop-reading.reading-index in
-    elim c.if-is-same.branch [
-      | then-is-same w ↦ (omega (arith, w.count-is, step xs i c.loop-reading.count true c.loop-reading-test.true (sym w.if-is-same.true ∙ c.is-same.ensures) c.loop-reading.invariant.0), omega (arith, w.count-is))
-      | else-is-same w ↦ (omega (arith, w.count-is, step xs i c.loop-reading.count false c.loop-reading-test.true (sym w.if-is-same.false ∙ c.is-same.ensures) c.loop-reading.invariant.0), omega (arith, w.count-is))
+    elim c.if-is_same.branch [
+      | then-is-same w ↦ (omega (arith, w.count-is, step xs i c.loop-reading.count true c.loop-reading-test.true (sym w.if-is_same.true ∙ c.is_same.ensures) c.loop-reading.invariant.0), omega (arith, w.count-is))
+      | else-is-same w ↦ (omega (arith, w.count-is, step xs i c.loop-reading.count false c.loop-reading-test.true (sym w.if-is_same.false ∙ c.is_same.ensures) c.loop-reading.invariant.0), omega (arith, w.count-is))
     ]
 
 pub returns : goal.returns

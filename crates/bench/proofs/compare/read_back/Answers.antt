@@ -11,13 +11,13 @@ tested xs ys r h = search (rules, bytes_eq-Decides)
 pub returns-in-Sound : goal.returns-in-Sound
 returns-in-Sound g c =
     read_sound (g.M.Medium.sectors c.args.medium.now) c.args.burn.now (replicate 524 0) c.read.new.image true refl
-    (ap Ok (sym c.in-Sound.is) ∙ sym c.in-ok-read.was ∙ c.read.ensures.answer)
+    (ap Ok (sym c.in-Sound.is) ∙ sym c.in_ok-read.was ∙ c.read.ensures.answer)
     c.read.ensures.image
     (sym c.if-eq.true ∙ tested _ _ _ (slice_eq-Decides Decides-eqb _ _ _ c.eq.ensures))
 
 pub returns-in-Sound-2 : goal.returns-in-Sound-2
 returns-in-Sound-2 g c =
     read_sound (g.M.Medium.sectors c.args.medium.now) c.args.burn.now (replicate 524 0) c.read.new.image false refl
-    (ap Ok (sym c.in-Sound.is) ∙ sym c.in-ok-read.was ∙ c.read.ensures.answer)
+    (ap Ok (sym c.in-Sound.is) ∙ sym c.in_ok-read.was ∙ c.read.ensures.answer)
     c.read.ensures.image
     (sym c.if-eq.false ∙ tested _ _ _ (slice_eq-Decides Decides-eqb _ _ _ c.eq.ensures))

@@ -17,7 +17,7 @@ map_more f d xs i old new y h so_far here pushed =
 
 pub loop-burn-preserved : goal.loop-burn-preserved
 loop-burn-preserved g c = (
-  map_more (reading_back (g.M.Medium.sectors c.burn-all.new.medium)) no_burn c.args.burns.now c.loop-burn.burn-index _ _ _ c.loop-burn-test.true c.loop-burn.invariant.0 c.read-back.ensures c.push-reserved.ensures.items,
+  map_more (reading_back (g.M.Medium.sectors c.burn_all.new.medium)) no_burn c.args.burns.now c.loop-burn.burn-index _ _ _ c.loop-burn-test.true c.loop-burn.invariant.0 c.read_back.ensures c.push_reserved.ensures.items,
   omega arith,
   omega arith,
 )
@@ -25,9 +25,9 @@ loop-burn-preserved g c = (
 pub returns : goal.returns
 returns g c =
     let s = g.M.Medium.sectors c.args.medium.now in
-    let t = g.M.Medium.sectors c.burn-all.new.medium in
+    let t = g.M.Medium.sectors c.burn_all.new.medium in
     let bs = c.args.burns.now in
-    let run = c.in-ok-burnt.ensures in
+    let run = c.in_ok-burnt.ensures in
     let all = c.loop-burn.invariant.0 ∙ ap (map (reading_back t)) (take_all c.loop-burn.burn-index bs c.loop-burn-test.false) in
     record {
       burnt_first = run;

@@ -7,6 +7,6 @@ returns g c =
     let near = g.met.A.Addressing.near in
     let low = near.0 in
     let high = near.1 in
-    let first = c.lowest-track-first.ensures in
-    let fits : SFits w32 (c.args.address.track -ℤ c.lowest-track-first.result) = omega (arith, ints) in
+    let first = c.lowest_track-first.ensures in
+    let fits : SFits w32 (c.args.address.track -ℤ c.lowest_track-first.result) = omega (arith, ints) in
     search rules

@@ -3,8 +3,8 @@ use Rattle.format.proofs.Copying.{Copying, copying_done, copying_next, copying_s
 use Rattle.medium.specs.Sectors.{is_blank, sector_at}
 use Rattle.format.proofs.copies.burn_copies.Goals as goal
 
-pub burn-copy-requires : goal.burn-copy-requires
-burn-copy-requires g c =
+pub burn_copy-requires : goal.burn_copy-requires
+burn_copy-requires g c =
     let i = c.loop-sector.sector-index in
     let sectors = c.args.sectors.now in
     let k = c.loop-sector.invariant in
@@ -23,10 +23,10 @@ loop-sector-preserved g c =
     let i = c.loop-sector.sector-index in
     let sectors = c.args.sectors.now in
     let h = c.requires.blank (get_or sectors i 0) (mem_at sectors i c.loop-sector-test.true) in
-    let was = c.in-ok-any-sound.was in
-    let answer = c.burn-copy.ensures.answer in
-    let found : c.in-ok-any-sound.any-sound ≡ (c.loop-sector.any-sound || not (sector_at (g.M.Medium.sectors c.loop-sector.medium) (get_or sectors i 0)).weak) = cc in
-    let next = copying_next _ _ _ _ _ _ c.loop-sector.invariant c.loop-sector-test.true _ _ c.requires.apart h.1 c.burn-copy.ensures.after refl in
+    let was = c.in_ok-any_sound.was in
+    let answer = c.burn_copy.ensures.answer in
+    let found : c.in_ok-any_sound.any_sound ≡ (c.loop-sector.any_sound || not (sector_at (g.M.Medium.sectors c.loop-sector.medium) (get_or sectors i 0)).weak) = cc in
+    let next = copying_next _ _ _ _ _ _ c.loop-sector.invariant c.loop-sector-test.true _ _ c.requires.apart h.1 c.burn_copy.ensures.after refl in
     subst (Copying _ _ _ _ _) (sym found) next
 
 pub returns : goal.returns

@@ -10,8 +10,8 @@ same_some a b o e f = cc
 none_some : (b : ℕ) (o : Option ℕ) → None ≡ o → o ≡ Some b → ⊥
 none_some b o e f = let z : ◌≡◌ {A = ℕ} 0 1 = cc in omega arith
 
-pub read-sound-requires : goal.read-sound-requires
-read-sound-requires g c =
+pub read_sound-requires : goal.read_sound-requires
+read_sound-requires g c =
     record {
       inside = c.requires.inside _ (mem_at c.args.sectors.now c.loop-sector.sector-index c.loop-sector-test.true);
       whole = c.loop-sector.auto.image ∙ c.requires.whole;
@@ -20,7 +20,7 @@ read-sound-requires g c =
 pub loop-sector-preserved : goal.loop-sector-preserved
 loop-sector-preserved g c =
     let s = g.M.Medium.sectors c.args.medium.now in
-    let was = c.in-ok-read-sound.was in
+    let was = c.in_ok-read_sound.was in
     let answer = c.read_sound.ensures.answer in
     let no' : sound_at s (get_or c.args.sectors.now c.loop-sector.sector-index 0) ≡ false = cc in
     first_over s c.args.sectors.now c.loop-sector.sector-index c.loop-sector.invariant c.loop-sector-test.true no'
@@ -28,7 +28,7 @@ loop-sector-preserved g c =
 pub returns-then-branch : goal.returns-then-branch
 returns-then-branch g c =
     let s = g.M.Medium.sectors c.args.medium.now in
-    let was = c.in-ok-read-sound.was in
+    let was = c.in_ok-read_sound.was in
     let answer = c.read_sound.ensures.answer in
     let yes' : sound_at s (get_or c.args.sectors.now c.loop-sector.sector-index 0) ≡ true = cc in
     let here = first_here s c.args.sectors.now c.loop-sector.sector-index c.loop-sector.invariant c.loop-sector-test.true yes' in

@@ -5,15 +5,15 @@ use Rattle.maps.specs.Places.{no_band}
 use Rattle.std.proofs.lemmas.List.{at_drop_all, at_drop_more}
 use Rattle.maps.proofs.areas.begun.Goals as goal
 
-pub returns-then-is-some : goal.returns-then-is-some
-returns-then-is-some c =
+pub returns-then-is_some : goal.returns-then-is_some
+returns-then-is_some c =
     let t = c.args.track in
     let n = c.loop-band.number in
     let xs = c.args.bands.now in
     let i = c.loop-band.band-index in
     let step = at_drop_more (λ ys. begun n ys t) xs i no_band c.loop-band-test.true in
     let later = begun (n + 1) (drop (i + 1) xs) t in
-    sym (or_some c.begun-in-area.result later (sym c.if-is-some.ensures)) ∙ ap (λ o. or_else o later) c.begun-in-area.ensures ∙ sym step ∙ c.loop-band.invariant.0
+    sym (or_some c.begun_in-area.result later (sym c.if-is_some.ensures)) ∙ ap (λ o. or_else o later) c.begun_in-area.ensures ∙ sym step ∙ c.loop-band.invariant.0
 
 pub loop-band-preserved : goal.loop-band-preserved
 loop-band-preserved c =
@@ -23,7 +23,7 @@ loop-band-preserved c =
     let i = c.loop-band.band-index in
     let step = at_drop_more (λ ys. begun n ys t) xs i no_band c.loop-band-test.true in
     let later = begun (n + 1) (drop (i + 1) xs) t in
-    (sym (or_none c.begun-in-area.result later (sym c.if-is-some.ensures)) ∙ ap (λ o. or_else o later) c.begun-in-area.ensures ∙ sym step ∙ c.loop-band.invariant.0, omega (arith, c.loop-band.invariant.1))
+    (sym (or_none c.begun_in-area.result later (sym c.if-is_some.ensures)) ∙ ap (λ o. or_else o later) c.begun_in-area.ensures ∙ sym step ∙ c.loop-band.invariant.0, omega (arith, c.loop-band.invariant.1))
 
 pub returns : goal.returns
 returns c =

@@ -7,14 +7,14 @@ returns-then-band-sector c = ap Some c.area_from.ensures ∙ sym (begun_map c.ar
 
 pub returns-then-band-sector-2 : goal.returns-then-band-sector-2
 returns-then-band-sector-2 c =
-    ap Some c.area-from-then-band-sector-2.ensures ∙ sym (begun_alternative c.args.number c.args.band c.args.track c.if-band-sector.false c.if-band-sector-2.true)
+    ap Some c.area_from-then-band-sector-2.ensures ∙ sym (begun_alternative c.args.number c.args.band c.args.track c.if-band-sector.false c.if-band-sector-2.true)
 
-pub returns-then-is-overflow-band : goal.returns-then-is-overflow-band
-returns-then-is-overflow-band c =
-    let t = ap (λ o. not o && eqb c.args.band.first (32 * (c.args.track + 2))) (sym c.is-overflow.ensures) ∙ c.if-is-overflow-band.true in
-    ap Some c.area-from-then-is-overflow-band.ensures ∙ sym (begun_prime c.args.number c.args.band c.args.track c.if-band-sector.false c.if-band-sector-2.false t)
+pub returns-then-is_overflow-band : goal.returns-then-is_overflow-band
+returns-then-is_overflow-band c =
+    let t = ap (λ o. not o && eqb c.args.band.first (32 * (c.args.track + 2))) (sym c.is_overflow.ensures) ∙ c.if-is_overflow-band.true in
+    ap Some c.area_from-then-is_overflow-band.ensures ∙ sym (begun_prime c.args.number c.args.band c.args.track c.if-band-sector.false c.if-band-sector-2.false t)
 
 pub returns : goal.returns
 returns c =
-    let t = ap (λ o. not o && eqb c.args.band.first (32 * (c.args.track + 2))) (sym c.is-overflow.ensures) ∙ c.if-is-overflow-band.false in
+    let t = ap (λ o. not o && eqb c.args.band.first (32 * (c.args.track + 2))) (sym c.is_overflow.ensures) ∙ c.if-is_overflow-band.false in
     sym (begun_none c.args.number c.args.band c.args.track c.if-band-sector.false c.if-band-sector-2.false t)

@@ -8,11 +8,11 @@ pub returns : goal.returns
 unfolding band_stands
 returns c =
     let x = c.args.band in
-    let primes : c.if-is-overflow.primes_stand ≡ cond (overflow x) (eqb x.first 0) (inside c.args.end x.first x.homes) =
-    elim c.if-is-overflow.branch [
-      | then-is-overflow w ↦ w.primes-stand-is ∙ sym (cond-true (overflow x) _ _ (sym w.if-is-overflow.ensures))
+    let primes : c.if-is_overflow.primes_stand ≡ cond (overflow x) (eqb x.first 0) (inside c.args.end x.first x.homes) =
+    elim c.if-is_overflow.branch [
+      | then-is-overflow w ↦ w.primes_stand-is ∙ sym (cond-true (overflow x) _ _ (sym w.if-is_overflow.ensures))
       | else-is-overflow w ↦
-          let e : w.is-inside-primes-stand.result ≡ inside c.args.end x.first x.homes = cc in
-          w.primes-stand-is ∙ e ∙ sym (cond-false (overflow x) _ _ (sym w.if-is-overflow.ensures))
+          let e : w.is_inside-primes_stand.result ≡ inside c.args.end x.first x.homes = cc in
+          w.primes_stand-is ∙ e ∙ sym (cond-false (overflow x) _ _ (sym w.if-is_overflow.ensures))
     ] in
     cc

@@ -6,7 +6,7 @@ use Rattle.maps.proofs.rules.homes_in.Goals as goal
 pub loop-band-preserved : goal.loop-band-preserved
 loop-band-preserved c =
     let step = at_drop_more block_count c.args.bands.now c.loop-band.band-index no_band c.loop-band-test.true in
-    (omega (arith, step, c.loop-band.invariant.0, c.home-count-homes.ensures.value), omega (arith, c.loop-band.invariant.1, c.home-count-homes.ensures.small))
+    (omega (arith, step, c.loop-band.invariant.0, c.home_count-homes.ensures.value), omega (arith, c.loop-band.invariant.1, c.home_count-homes.ensures.small))
 
 pub returns : goal.returns
 returns c =

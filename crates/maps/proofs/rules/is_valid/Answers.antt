@@ -3,9 +3,9 @@ use Rattle.std.proofs.lemmas.Bool.{and_from, and_left, and_right, le-leb, lt-leb
 use Rattle.maps.specs.Places.{bands_of, bands_stand, block_count, valid}
 use Rattle.maps.proofs.rules.is_valid.Goals as goal
 
-pub returns-then-count-gt-MOST-BANDS : goal.returns-then-count-gt-MOST-BANDS
+pub returns-then-count-gt-MOST_BANDS : goal.returns-then-count-gt-MOST_BANDS
 unfolding valid
-returns-then-count-gt-MOST-BANDS c =
+returns-then-count-gt-MOST_BANDS c =
     sym (and_right _ _ (and_left _ _ (and_right (leb 1 c.args.layout.now.count) _ (lt-leb c.args.layout.now.count 8 (omega arith)))))
 
 and_true : (e : Bool) → (e && true) ≡ e
@@ -21,6 +21,6 @@ pub returns : goal.returns
 unfolding valid
 returns c =
     let l = c.args.layout.now in
-    let homes : leb 1 c.homes-in.result ≡ leb 1 (block_count (bands_of l)) = ap (leb 1) c.homes-in.ensures in
+    let homes : leb 1 c.homes_in.result ≡ leb 1 (block_count (bands_of l)) = ap (leb 1) c.homes_in.ensures in
     let rest = ap (λ t. leb 1 l.count && (t && c.bands_stand.result)) homes ∙ ap (λ t. leb 1 l.count && (leb 1 (block_count (bands_of l)) && t)) c.bands_stand.ensures in
     rest ∙ shorter _ _ _ _ (and_from _ _ (le-leb 8 l.last c.requires.0) (le-leb l.last 19999 c.requires.1.0)) (le-leb l.count 8 (omega arith))

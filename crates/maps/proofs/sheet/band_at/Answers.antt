@@ -31,12 +31,12 @@ band_prime d k m s p n f em es ep en t ef =
     let b = cond-false (overflow_entry d k) 0 (32 * prime_tracks d k) over in
     cc
 
-pub returns-then-prime-track-prime-tracks : goal.returns-then-prime-track-prime-tracks
-returns-then-prime-track-prime-tracks c =
+pub returns-then-prime_track-prime_tracks : goal.returns-then-prime_track-prime_tracks
+returns-then-prime_track-prime_tracks c =
     let q = placed c.args.sheet.now c.args.k in
-    band_over c.args.sheet.now c.args.k _ _ _ _ (c.first-sector-maps.ensures ∙ ap first_sector (c.two-at.ensures ∙ q.0)) (c.first-sector-spares.ensures ∙ ap first_sector (c.two-at-2.ensures ∙ q.1)) (c.two-at-prime-track.ensures ∙ q.2) (c.two-at-prime-tracks.ensures ∙ q.3) c.if-prime-track-prime-tracks.true
+    band_over c.args.sheet.now c.args.k _ _ _ _ (c.first_sector-maps.ensures ∙ ap first_sector (c.two_at.ensures ∙ q.0)) (c.first_sector-spares.ensures ∙ ap first_sector (c.two_at-2.ensures ∙ q.1)) (c.two_at-prime_track.ensures ∙ q.2) (c.two_at-prime_tracks.ensures ∙ q.3) c.if-prime_track-prime_tracks.true
 
 pub returns : goal.returns
 returns c =
     let q = placed c.args.sheet.now c.args.k in
-    band_prime c.args.sheet.now c.args.k _ _ c.two-at-prime-track.result _ _ (c.first-sector-maps.ensures ∙ ap first_sector (c.two-at.ensures ∙ q.0)) (c.first-sector-spares.ensures ∙ ap first_sector (c.two-at-2.ensures ∙ q.1)) (c.two-at-prime-track.ensures ∙ q.2) (c.from.ensures ∙ c.two-at-prime-tracks.ensures ∙ q.3) (ap (λ z. eqb c.two-at-prime-track.result 65535 && eqb z 65535) c.from.ensures ∙ c.if-prime-track-prime-tracks.false) c.first_sector.ensures
+    band_prime c.args.sheet.now c.args.k _ _ c.two_at-prime_track.result _ _ (c.first_sector-maps.ensures ∙ ap first_sector (c.two_at.ensures ∙ q.0)) (c.first_sector-spares.ensures ∙ ap first_sector (c.two_at-2.ensures ∙ q.1)) (c.two_at-prime_track.ensures ∙ q.2) (c.from.ensures ∙ c.two_at-prime_tracks.ensures ∙ q.3) (ap (λ z. eqb c.two_at-prime_track.result 65535 && eqb z 65535) c.from.ensures ∙ c.if-prime_track-prime_tracks.false) c.first_sector.ensures

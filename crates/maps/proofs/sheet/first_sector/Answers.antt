@@ -14,5 +14,5 @@ answer t =
 
 pub returns : goal.returns
 returns c =
-    let e : c.number-of.result ≡ number_at 32 (negsuc 1) (record { track = pos c.args.track; sector = 0 }) = search rules in
-    c.unwrap-or.ensures ∙ ap (λ o. unwrap_or o 640064) e ∙ answer c.args.track
+    let e : c.number_of.result ≡ number_at 32 (negsuc 1) (record { track = pos c.args.track; sector = 0 }) = search rules in
+    c.unwrap_or.ensures ∙ ap (λ o. unwrap_or o 640064) e ∙ answer c.args.track

@@ -19,17 +19,17 @@ loop-i-preserved g c =
     let xs = c.args.records.now in
     let i = c.loop-i.i in
     step (map f xs) i (omega arith) c.loop-i.invariant
-    (omega (arith, c.if-not-is-below.ensures.0 refl, key_at f xs (i - 1) _ (omega arith) c.index-records-i.is, key_at f xs i _ (omega arith) c.index-records-i-in-loop-i.is))
+    (omega (arith, c.if-not-is_below.ensures.0 refl, key_at f xs (i - 1) _ (omega arith) c.index-records-i.is, key_at f xs i _ (omega arith) c.index-records-i-in-loop-i.is))
 
-pub returns-then-not-is-below : goal.returns-then-not-is-below
-returns-then-not-is-below g c =
+pub returns-then-not-is_below : goal.returns-then-not-is_below
+returns-then-not-is_below g c =
     let f = g.R.Keyed.keyed in
     let xs = c.args.records.now in
     let i = c.loop-i.i in
     let same : i - 1 + 1 ≡ i = omega arith in (
       (λ e. absurd (false≢true e)),
       (λ all.
-          c.if-not-is-below.ensures.1
+          c.if-not-is_below.ensures.1
           (omega (
             arith,
             all (i - 1) (omega (arith, length-map xs f)),

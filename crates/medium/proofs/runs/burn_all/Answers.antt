@@ -30,7 +30,7 @@ loop-burn-preserved g c =
     let bs = c.args.burns.now in
     let i = c.loop-burn.burn-index in (
       left_more s t bs i c.ask.ensures.after c.loop-burn-test.true _ c.loop-burn.invariant.0,
-      answers_more s t bs i c.ask.ensures.after c.loop-burn-test.true _ _ _ _ c.ask.ensures.answer c.push-reserved.ensures.items c.loop-burn.invariant.1,
+      answers_more s t bs i c.ask.ensures.after c.loop-burn-test.true _ _ _ _ c.ask.ensures.answer c.push_reserved.ensures.items c.loop-burn.invariant.1,
       omega arith,
       omega arith,
     )

@@ -20,8 +20,8 @@ rises fs up i some h =
       get_or-map offset_of fs i no_flaw 0 h,
     )
 
-pub overflow-sub-flaws : goal.overflow-sub-flaws
-overflow-sub-flaws c = rises c.args.flaws.now c.requires c.loop-i.i c.loop-i.auto.i c.loop-i-test.true
+pub overflow_sub-flaws : goal.overflow_sub-flaws
+overflow_sub-flaws c = rises c.args.flaws.now c.requires c.loop-i.i c.loop-i.auto.i c.loop-i-test.true
 
 -- what holds of the pairs before flaw i, and of the pair that ends with it, holds of the pairs before flaw i + 1
 step : (fs : List Flaw) (i : ℕ) → 1 ≤ i → ((k : ℕ) → k + 1 < i → end_of (flaw_at fs k) ≤ (flaw_at fs (k + 1)).offset) → end_of (flaw_at fs (i - 1)) ≤ (flaw_at fs i).offset → (k : ℕ) → k + 1 < i + 1 → end_of (flaw_at fs k) ≤ (flaw_at fs (k + 1)).offset

@@ -5,4 +5,4 @@ use Rattle.pointers.proofs.sheet.is_marked.Goals as goal
 
 pub returns : goal.returns
 unfolding marked
-returns c = ap₂ ◌&&◌ (c.same-bytes.ensures ∙ ap (bytes_eq (take 4 c.args.sheet.now)) c.head.ensures) c.same-bytes-2.ensures
+returns c = ap₂ ◌&&◌ (c.same_bytes.ensures ∙ ap (bytes_eq (take 4 c.args.sheet.now)) c.head.ensures) c.same_bytes-2.ensures

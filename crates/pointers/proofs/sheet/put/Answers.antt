@@ -8,4 +8,4 @@ returns c =
     let at = c.args.at in
     let k = length c.args.field.now in
     let q : at + (at + k - at) ≡ at + k = omega arith in
-    ap₂ (λ ys zs. take at xs ++ (ys ++ zs)) c.copy-from-slice.ensures.after (drop-drop (at + k - at) at xs ∙ ap (λ j. drop j xs) q)
+    ap₂ (λ ys zs. take at xs ++ (ys ++ zs)) c.copy_from_slice.ensures.after (drop-drop (at + k - at) at xs ∙ ap (λ j. drop j xs) q)

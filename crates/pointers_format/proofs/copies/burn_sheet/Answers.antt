@@ -10,14 +10,14 @@ use Rattle.pointers_format.specs.Initialising.{with_copies}
 use Rattle.pointers_format.proofs.copies.burn_sheet.Goals as goal
 
 pub copies-requires : goal.copies-requires
-copies-requires g c = ap fits_format c.sector-count.ensures ∙ c.args.geometry.now.sized
+copies-requires g c = ap fits_format c.sector_count.ensures ∙ c.args.geometry.now.sized
 
-pub burn-copies-requires : goal.burn-copies-requires
-burn-copies-requires g c =
+pub burn_copies-requires : goal.burn_copies-requires
+burn_copies-requires g c =
     let geometry = c.args.geometry.now in
     let s = g.M.Medium.sectors c.args.medium.now in
     let n = last_track geometry.sectors in
-    let at = c.copies.ensures ∙ ap (λ p. copies (last_track p)) c.sector-count.ensures in
+    let at = c.copies.ensures ∙ ap (λ p. copies (last_track p)) c.sector_count.ensures in
     record {
       whole = ap length c.copy_image.ensures ∙ copy_whole geometry (sheet_length geometry);
       apart = subst Apart (sym at) (copies_apart n (size_held geometry).least);
@@ -28,8 +28,8 @@ pub returns : goal.returns
 unfolding with_copies
 returns g c =
     let s = g.M.Medium.sectors c.args.medium.now in
-    let at = c.copies.ensures ∙ ap (λ p. copies (last_track p)) c.sector-count.ensures in
+    let at = c.copies.ensures ∙ ap (λ p. copies (last_track p)) c.sector_count.ensures in
     record {
-      answer = c.burn-copies.ensures.answer ∙ ap (λ ps. Ok (some_free s ps)) at;
-      after = c.burn-copies.ensures.after ∙ ap₂ (λ d ps. after_burns s (copy_burns d ps)) c.copy_image.ensures at;
+      answer = c.burn_copies.ensures.answer ∙ ap (λ ps. Ok (some_free s ps)) at;
+      after = c.burn_copies.ensures.after ∙ ap₂ (λ d ps. after_burns s (copy_burns d ps)) c.copy_image.ensures at;
     }

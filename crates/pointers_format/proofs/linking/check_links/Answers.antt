@@ -12,11 +12,11 @@ use Rattle.pointers_format.proofs.linking.check_links.Goals as goal
 pub loop-index-init : goal.loop-index-init
 loop-index-init g c = checking_start c.args.geometry.now.layout (g.M.Medium.sectors c.args.medium.now) 620000 refl
 
-pub check-link-requires : goal.check-link-requires
-check-link-requires g c =
+pub check_link-requires : goal.check_link-requires
+check_link-requires g c =
     let l = c.args.geometry.now.layout in
     let h = c.loop-index-test.true in
-    let e = c.spare-count-index-end.ensures.count in
+    let e = c.spare_count-index-end.ensures.count in
     let more : c.loop-index.index < length (all_spares l) = omega arith in
     record {
       sized = c.requires;
@@ -30,10 +30,10 @@ returns-then-not-branch g c =
     let l = geometry.layout in
     let s = g.M.Medium.sectors c.args.medium.now in
     let h = c.loop-index-test.true in
-    let e = c.spare-count-index-end.ensures.count in
+    let e = c.spare_count-index-end.ensures.count in
     let more : c.loop-index.index < length (all_spares l) = omega arith in
-    let was = c.in-ok-check-link.was in
-    let answer = c.check-link.ensures.answer in
+    let was = c.in_ok-check_link.was in
+    let answer = c.check_link.ensures.answer in
     let unfit : passes_unless l s (get_or c.loop-index.named (named_by s c.spare-spare.result) false) c.spare-spare.result ≡ false = cc in
     let stop = checking_stop geometry s c.loop-index.named c.loop-index.index c.loop-index.invariant more (ap (λ p. passes_unless l s (get_or c.loop-index.named (named_by s p) false) p) (sym c.spare-spare.ensures) ∙ unfit) in
     ap Err (c.fault.ensures ∙ ap (format_fault FaultyLink) c.spare-spare.ensures) ∙ ap links_checked stop
@@ -44,19 +44,19 @@ loop-index-preserved g c =
     let l = geometry.layout in
     let s = g.M.Medium.sectors c.args.medium.now in
     let h = c.loop-index-test.true in
-    let e = c.spare-count-index-end.ensures.count in
+    let e = c.spare_count-index-end.ensures.count in
     let more : c.loop-index.index < length (all_spares l) = omega arith in
-    let was = c.in-ok-check-link.was in
-    let answer = c.check-link.ensures.answer in
+    let was = c.in_ok-check_link.was in
+    let answer = c.check_link.ensures.answer in
     let taken = c.if-not-branch.false in
-    let ok : c.check-link.result ≡ Ok true = cc in
+    let ok : c.check_link.result ≡ Ok true = cc in
     let fit : passes_unless l s (get_or c.loop-index.named (named_by s c.spare-spare.result) false) c.spare-spare.result ≡ true = cc in
     let at = c.spare-spare.ensures in
-    checking_next geometry s c.loop-index.named c.loop-index.index c.loop-index.invariant more _ (c.check-link.ensures.marked ok ∙ ap (marks_with s c.loop-index.named) at) (ap (λ p. passes_unless l s (get_or c.loop-index.named (named_by s p) false) p) (sym at) ∙ fit)
+    checking_next geometry s c.loop-index.named c.loop-index.index c.loop-index.invariant more _ (c.check_link.ensures.marked ok ∙ ap (marks_with s c.loop-index.named) at) (ap (λ p. passes_unless l s (get_or c.loop-index.named (named_by s p) false) p) (sym at) ∙ fit)
 
 pub returns : goal.returns
 returns g c =
     let geometry = c.args.geometry.now in
     let h = c.loop-index-test.false in
-    let e = c.spare-count-index-end.ensures.count in
+    let e = c.spare_count-index-end.ensures.count in
     ap links_checked (checking_done geometry (g.M.Medium.sectors c.args.medium.now) c.loop-index.named c.loop-index.index c.loop-index.invariant (omega arith))

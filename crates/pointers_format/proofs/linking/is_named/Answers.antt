@@ -9,7 +9,7 @@ pub returns-then-not-branch : goal.returns-then-not-branch
 unfolding names
 returns-then-not-branch g c =
     let s = g.M.Medium.sectors c.args.medium.now in
-    let was = c.in-ok-read-sound.was in
+    let was = c.in_ok-read_sound.was in
     let answer = c.read_sound.ensures.answer in
     let unfit : sound_at s c.args.spare ≡ false = cc in
     ap Ok (sym (and_left _ _ unfit))
@@ -18,7 +18,7 @@ pub returns : goal.returns
 unfolding names
 returns g c =
     let s = g.M.Medium.sectors c.args.medium.now in
-    let was = c.in-ok-read-sound.was in
+    let was = c.in_ok-read_sound.was in
     let answer = c.read_sound.ensures.answer in
     let so : sound_at s c.args.spare ≡ true = cc in
     let n = named_is s c.args.spare _ _ (c.read_sound.ensures.image so) c.target.ensures in

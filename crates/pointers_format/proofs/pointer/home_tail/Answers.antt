@@ -13,16 +13,16 @@ four_first : (ps : List ℕ) → four_of (pointer_to_first ps) ≡ pointer_to_fi
 four_first [] = refl
 four_first (p ∷ ps) = refl
 
-pub pointer-to-requires : goal.pointer-to-requires
-pointer-to-requires c =
+pub pointer_to-requires : goal.pointer_to-requires
+pointer_to-requires c =
     let g = c.args.geometry.now in
     let k = home_inside g c.args.block c.requires in
     let f = few_sectors g in
-    let e = c.home-of.ensures in
+    let e = c.home_of.ensures in
     omega arith
 
 pub returns : goal.returns
 unfolding home_tail
 returns c =
     let ps = spares_of c.args.geometry.now.layout c.args.block in
-    ap₂ (λ x y. four_of x ++ (four_of y ++ four_of y)) (c.pointer_to.ensures ∙ ap pointer_to c.home-of.ensures) c.pointer-to-spare.ensures ∙ ap (λ y. pointer_to (home c.args.geometry.now.layout c.args.block) ++ (y ++ y)) (four_first ps)
+    ap₂ (λ x y. four_of x ++ (four_of y ++ four_of y)) (c.pointer_to.ensures ∙ ap pointer_to c.home_of.ensures) c.pointer_to_spare.ensures ∙ ap (λ y. pointer_to (home c.args.geometry.now.layout c.args.block) ++ (y ++ y)) (four_first ps)

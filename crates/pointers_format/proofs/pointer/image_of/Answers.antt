@@ -2,11 +2,11 @@ use Rattle.std.proofs.Common.{ℕ, List, ◌++◌, drop, replicate, ap, ◌∙�
 use Rattle.std.proofs.lemmas.List.{append-nil, drop_at, length-append, take_at}
 use Rattle.pointers_format.proofs.pointer.image_of.Goals as goal
 
-pub slice-bounds-image-end-2 : goal.slice-bounds-image-end-2
-slice-bounds-image-end-2 c = omega (arith, length-append c.copy-from-slice.new.self (replicate 12 0))
+pub slice_bounds-image-end-2 : goal.slice_bounds-image-end-2
+slice_bounds-image-end-2 c = omega (arith, length-append c.copy_from_slice.new.self (replicate 12 0))
 
 pub returns : goal.returns
 returns c =
-    let first : List ℕ = c.copy-from-slice.new.self in
+    let first : List ℕ = c.copy_from_slice.new.self in
     let rest : List ℕ = replicate 12 0 in
-    ap₂ ◌++◌ (take_at first rest 512 c.copy-from-slice.ensures.len ∙ c.copy-from-slice.ensures.after) (ap₂ ◌++◌ c.copy-from-slice-2.ensures.after (ap (drop 12) (drop_at first rest 512 c.copy-from-slice.ensures.len)) ∙ append-nil c.args.tail)
+    ap₂ ◌++◌ (take_at first rest 512 c.copy_from_slice.ensures.len ∙ c.copy_from_slice.ensures.after) (ap₂ ◌++◌ c.copy_from_slice-2.ensures.after (ap (drop 12) (drop_at first rest 512 c.copy_from_slice.ensures.len)) ∙ append-nil c.args.tail)

@@ -16,20 +16,20 @@ first_is : (xs : List ℕ) → 0 < length xs → pointer_to (get_or xs 0 0) ≡ 
 first_is [] h = absurd (omega arith)
 first_is (x ∷ xs) h = refl
 
-pub returns-then-candidate-count-eq0 : goal.returns-then-candidate-count-eq0
-returns-then-candidate-count-eq0 c =
+pub returns-then-candidate_count-eq0 : goal.returns-then-candidate_count-eq0
+returns-then-candidate_count-eq0 c =
     let l = c.args.geometry.now.layout in
-    let e = c.candidate-count.ensures in
-    let z = c.if-candidate-count-eq0.true in
+    let e = c.candidate_count.ensures in
+    let z = c.if-candidate_count-eq0.true in
     no_first (spares_of l c.args.block) (omega (arith, length_spares_of l c.args.block))
 
-pub pointer-to-requires : goal.pointer-to-requires
-pointer-to-requires c =
+pub pointer_to-requires : goal.pointer_to-requires
+pointer_to-requires c =
     let g = c.args.geometry.now in
     let l = g.layout in
     let b = c.args.block in
-    let e = c.candidate-count.ensures in
-    let z = c.if-candidate-count-eq0.false in
+    let e = c.candidate_count.ensures in
+    let z = c.if-candidate_count-eq0.false in
     let some : 0 < length (spares_of l b) = omega (arith, length_spares_of l b) in
     let k = spare_inside g _ (block_listed (last_track g.sectors) l (rules g) b _ c.requires (mem_at (spares_of l b) 0 some)) in
     let f = few_sectors g in
@@ -39,7 +39,7 @@ pointer-to-requires c =
 pub returns : goal.returns
 returns c =
     let l = c.args.geometry.now.layout in
-    let e = c.candidate-count.ensures in
-    let z = c.if-candidate-count-eq0.false in
+    let e = c.candidate_count.ensures in
+    let z = c.if-candidate_count-eq0.false in
     let some : 0 < length (spares_of l c.args.block) = omega (arith, length_spares_of l c.args.block) in
     c.pointer_to.ensures ∙ ap pointer_to c.candidate.ensures ∙ first_is (spares_of l c.args.block) some

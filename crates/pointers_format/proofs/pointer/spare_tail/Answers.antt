@@ -3,4 +3,4 @@ use Rattle.pointers_format.proofs.pointer.spare_tail.Goals as goal
 
 pub returns : goal.returns
 unfolding spare_tail
-returns c = simp (c.pointer_to.ensures, c.pointer-to-2.ensures)
+returns c = simp (c.pointer_to.ensures, c.pointer_to-2.ensures)

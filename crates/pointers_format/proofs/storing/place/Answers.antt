@@ -18,14 +18,14 @@ use Rattle.pointers_format.proofs.storing.place.Goals as goal
 burnt_by : (s : List Sector) (p : ℕ) (image bytes : List ℕ) (h : ℕ) (tail wanted : List ℕ) (t : List Sector) → p ≡ h → image ≡ bytes ++ tail → tail ≡ wanted → t ≡ sectors_after s p image → t ≡ sectors_after s h (bytes ++ wanted)
 burnt_by s p image bytes h tail wanted t e i f a = a ∙ ap₂ (sectors_after s) e (i ∙ ap (λ x. bytes ++ x) f)
 
-pub burn-blank-requires : goal.burn-blank-requires
-burn-blank-requires g c =
+pub burn_blank-requires : goal.burn_blank-requires
+burn_blank-requires g c =
     let geometry = c.args.geometry.now in
     let s = g.M.Medium.sectors c.args.medium.now in
-    let e = c.home-of.ensures in
+    let e = c.home_of.ensures in
     record {
       inside = subst (λ h. h < length s) (sym e) (home_there geometry s c.requires.sized c.args.block c.requires.there);
-      whole = ap length (c.image-of-image.ensures ∙ ap (λ t. c.args.bytes.now ++ t) c.home_tail.ensures) ∙ image_length _ _ c.requires.whole (home_tail_length _ _);
+      whole = ap length (c.image_of-image.ensures ∙ ap (λ t. c.args.bytes.now ++ t) c.home_tail.ensures) ∙ image_length _ _ c.requires.whole (home_tail_length _ _);
       blank = ap (blank_at s) e ∙ c.requires.unwritten;
     }
 
@@ -33,15 +33,15 @@ pub returns-then-branch : goal.returns-then-branch
 returns-then-branch g c =
     let geometry = c.args.geometry.now in
     let s = g.M.Medium.sectors c.args.medium.now in
-    let was = c.in-ok-burn-blank.was in
+    let was = c.in_ok-burn_blank.was in
     let answer = c.burn_blank.ensures.answer in
-    let sound : not (sector_at s c.home-of.result).weak ≡ true = cc in
-    let w : (sector_at s (home geometry.layout c.args.block)).weak ≡ false = ap (λ h. (sector_at s h).weak) (sym c.home-of.ensures) ∙ not-true _ sound in
+    let sound : not (sector_at s c.home_of.result).weak ≡ true = cc in
+    let w : (sector_at s (home geometry.layout c.args.block)).weak ≡ false = ap (λ h. (sector_at s h).weak) (sym c.home_of.ensures) ∙ not-true _ sound in
     let d = in_home geometry s c.requires.sized c.args.block c.requires.there c.args.bytes.now c.requires.unwritten w in
-    record { answer = ap Ok d.1; after = burnt_by s c.home-of.result _ c.args.bytes.now (home geometry.layout c.args.block) _ _ _ c.home-of.ensures c.image-of-image.ensures c.home_tail.ensures c.burn_blank.ensures.after ∙ d.0 }
+    record { answer = ap Ok d.1; after = burnt_by s c.home_of.result _ c.args.bytes.now (home geometry.layout c.args.block) _ _ _ c.home_of.ensures c.image_of-image.ensures c.home_tail.ensures c.burn_blank.ensures.after ∙ d.0 }
 
-pub try-spares-requires : goal.try-spares-requires
-try-spares-requires g c =
+pub try_spares-requires : goal.try_spares-requires
+try_spares-requires g c =
     record { sized = ap length c.burn_blank.ensures.after ∙ after_length _ _ _ ∙ c.requires.sized; there = c.requires.there; whole = c.requires.whole }
 
 pub returns : goal.returns
@@ -49,13 +49,13 @@ returns g c =
     let geometry = c.args.geometry.now in
     let b = c.args.block in
     let s = g.M.Medium.sectors c.args.medium.now in
-    let was = c.in-ok-burn-blank.was in
+    let was = c.in_ok-burn_blank.was in
     let answer = c.burn_blank.ensures.answer in
-    let weak : not (sector_at s c.home-of.result).weak ≡ false = cc in
-    let w : (sector_at s (home geometry.layout b)).weak ≡ true = ap (λ h. (sector_at s h).weak) (sym c.home-of.ensures) ∙ not-false _ weak in
+    let weak : not (sector_at s c.home_of.result).weak ≡ false = cc in
+    let w : (sector_at s (home geometry.layout b)).weak ≡ true = ap (λ h. (sector_at s h).weak) (sym c.home_of.ensures) ∙ not-false _ weak in
     let d = in_spares geometry s c.requires.sized b c.requires.there c.args.bytes.now w in
-    let after = burnt_by s c.home-of.result _ c.args.bytes.now (home geometry.layout b) _ _ _ c.home-of.ensures c.image-of-image.ensures c.home_tail.ensures c.burn_blank.ensures.after in
+    let after = burnt_by s c.home_of.result _ c.args.bytes.now (home geometry.layout b) _ _ _ c.home_of.ensures c.image_of-image.ensures c.home_tail.ensures c.burn_blank.ensures.after in
     record {
-      answer = c.try-spares.ensures.answer ∙ ap (λ t. Ok (some_free t (spares_of geometry.layout b))) after ∙ ap Ok d.1;
-      after = c.try-spares.ensures.after ∙ ap (λ t. after_burns t (spare_burns t (home geometry.layout b) c.args.bytes.now (spares_of geometry.layout b))) after ∙ d.0;
+      answer = c.try_spares.ensures.answer ∙ ap (λ t. Ok (some_free t (spares_of geometry.layout b))) after ∙ ap Ok d.1;
+      after = c.try_spares.ensures.after ∙ ap (λ t. after_burns t (spare_burns t (home geometry.layout b) c.args.bytes.now (spares_of geometry.layout b))) after ∙ d.0;
     }

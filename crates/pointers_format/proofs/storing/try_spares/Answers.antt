@@ -13,13 +13,13 @@ use Rattle.pointers_format.specs.Pointing.{spare_tail}
 use Rattle.pointers_format.proofs.storing.try_spares.Goals as goal
 
 pub candidate-requires : goal.candidate-requires
-candidate-requires g c = let e = c.candidate-count-index-end.ensures in let h = c.loop-index-test.true in (c.requires.there, omega arith)
+candidate-requires g c = let e = c.candidate_count-index-end.ensures in let h = c.loop-index-test.true in (c.requires.there, omega arith)
 
-pub try-spare-requires : goal.try-spare-requires
-try-spare-requires g c =
+pub try_spare-requires : goal.try_spare-requires
+try_spare-requires g c =
     let geometry = c.args.geometry.now in
     let ps = spares_of geometry.layout c.args.block in
-    let e = c.candidate-count-index-end.ensures in
+    let e = c.candidate_count-index-end.ensures in
     let h = c.loop-index-test.true in
     let more : c.loop-index.index < length ps = omega (arith, length_spares_of geometry.layout c.args.block) in
     let k = inside geometry (g.M.Medium.sectors c.args.medium.now) c.requires.sized c.args.block c.requires.there (get_or ps c.loop-index.index 0) (mem_at ps c.loop-index.index more) in
@@ -28,7 +28,7 @@ try-spare-requires g c =
     let z = c.requires.sized in
     let f = few_sectors geometry in
     let q = home_inside geometry c.args.block c.requires.there in
-    let w = c.home-of-home.ensures in
+    let w = c.home_of-home.ensures in
     record { inside = (omega arith, omega arith); named = omega arith; whole = c.requires.whole }
 
 pub loop-index-init : goal.loop-index-init
@@ -40,14 +40,14 @@ loop-index-preserved g c =
     let b = c.args.block in
     let ps = spares_of geometry.layout b in
     let s = g.M.Medium.sectors c.loop-index.medium in
-    let e = c.candidate-count-index-end.ensures in
+    let e = c.candidate_count-index-end.ensures in
     let h = c.loop-index-test.true in
     let more : c.loop-index.index < length ps = omega (arith, length_spares_of geometry.layout b) in
-    let was = c.in-ok-try-spare.was in
-    let answer = c.try-spare.ensures.answer in
+    let was = c.in_ok-try_spare.was in
+    let answer = c.try_spare.ensures.answer in
     let unfit : free s c.candidate.result ≡ false = cc in
     let r = c.candidate.ensures in
-    let after = c.try-spare.ensures.after ∙ ap₂ (λ p q. sectors_after s p (c.args.bytes.now ++ spare_tail p q)) r c.home-of-home.ensures in
+    let after = c.try_spare.ensures.after ∙ ap₂ (λ p q. sectors_after s p (c.args.bytes.now ++ spare_tail p q)) r c.home_of-home.ensures in
     trying_next _ _ _ _ _ _ c.loop-index.invariant more (spares_apart (last_track geometry.sectors) geometry.layout (rules geometry) b c.requires.there) (ap (free s) (sym r) ∙ unfit) _ after
 
 pub returns-then-branch : goal.returns-then-branch
@@ -56,21 +56,21 @@ returns-then-branch g c =
     let b = c.args.block in
     let ps = spares_of geometry.layout b in
     let s = g.M.Medium.sectors c.loop-index.medium in
-    let e = c.candidate-count-index-end.ensures in
+    let e = c.candidate_count-index-end.ensures in
     let h = c.loop-index-test.true in
     let more : c.loop-index.index < length ps = omega (arith, length_spares_of geometry.layout b) in
-    let was = c.in-ok-try-spare.was in
-    let answer = c.try-spare.ensures.answer in
+    let was = c.in_ok-try_spare.was in
+    let answer = c.try_spare.ensures.answer in
     let fit : free s c.candidate.result ≡ true = cc in
     let r = c.candidate.ensures in
-    let after = c.try-spare.ensures.after ∙ ap₂ (λ p q. sectors_after s p (c.args.bytes.now ++ spare_tail p q)) r c.home-of-home.ensures in
+    let after = c.try_spare.ensures.after ∙ ap₂ (λ p q. sectors_after s p (c.args.bytes.now ++ spare_tail p q)) r c.home_of-home.ensures in
     let d = trying_found _ _ _ _ _ _ c.loop-index.invariant more _ after (ap (free s) (sym r) ∙ fit) in
     record { answer = ap Ok d.1; after = d.0 }
 
 pub returns : goal.returns
 returns g c =
     let geometry = c.args.geometry.now in
-    let e = c.candidate-count-index-end.ensures in
+    let e = c.candidate_count-index-end.ensures in
     let h = c.loop-index-test.false in
     let d = trying_done _ _ _ _ _ _ c.loop-index.invariant (omega (arith, length_spares_of geometry.layout c.args.block)) in
     record { answer = ap Ok d.1; after = d.0 }

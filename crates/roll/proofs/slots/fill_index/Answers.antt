@@ -19,7 +19,7 @@ loop-slot-init c =
 
 pub loop-slot-preserved-then-number : goal.loop-slot-preserved-then-number
 loop-slot-preserved-then-number c =
-    let e = sym (c.number-in-number.ensures ∙ ap (number_at c.args.memory.now) c.slot-at.ensures) ∙ c.if-number.true in (
+    let e = sym (c.number_in-number.ensures ∙ ap (number_at c.args.memory.now) c.slot_at.ensures) ∙ c.if-number.true in (
       unused_more c.args.memory.now c.args.count c.loop-slot.slot c.loop-slot.used c.loop-slot.invariant.0 e,
       unused_index c.args.memory.now c.args.count c.loop-slot.slot c.loop-slot.index c.requires.1.1 e c.loop-slot.invariant.1,
       c.loop-slot.invariant.2,
@@ -31,8 +31,8 @@ returns-then-number-count c =
     let xs = c.args.memory.now in
     let p = c.args.count in
     let n = c.loop-slot.slot in
-    let m = c.number-in-number.result in
-    let e = c.number-in-number.ensures ∙ ap (number_at c.args.memory.now) c.slot-at.ensures in
+    let m = c.number_in-number.result in
+    let e = c.number_in-number.ensures ∙ ap (number_at c.args.memory.now) c.slot_at.ensures in
     let l = c.loop-slot-test.true in
     let ne : slot_number xs p n ≡ 4294967295 → ⊥ = λ z. c.if-number.false (e ∙ z) in
     elim c.then-number-count.branch [
@@ -49,8 +49,8 @@ loop-slot-preserved c =
     let xs = c.args.memory.now in
     let p = c.args.count in
     let n = c.loop-slot.slot in
-    let m = c.number-in-number.result in
-    let e = c.number-in-number.ensures ∙ ap (number_at c.args.memory.now) c.slot-at.ensures in
+    let m = c.number_in-number.result in
+    let e = c.number_in-number.ensures ∙ ap (number_at c.args.memory.now) c.slot_at.ensures in
     let l : m < p = omega (arith, c.if-number-count.false) in
     let long : length c.loop-slot.index ≡ p = c.loop-slot.invariant.3 in
     let z : get_or c.loop-slot.index m 0 ≡ 4294967295 = c.if-index-number.false in

@@ -8,8 +8,8 @@ use Rattle.maps.proofs.maps.Maps.areas.Goals as goal
 pub shared-ref-as-front·bands : goal.shared-ref-as-front·bands
 shared-ref-as-front·bands c = let m = c.args.self.now in (laid m.layout m.kept m.eight).few
 
-pub overflow-add-track-end : goal.overflow-add-track-end
-overflow-add-track-end c = let m = c.args.self.now in let s = (laid m.layout m.kept m.eight).small in omega arith
+pub overflow_add-track-end : goal.overflow_add-track-end
+overflow_add-track-end c = let m = c.args.self.now in let s = (laid m.layout m.kept m.eight).small in omega arith
 
 pub begun-requires : goal.begun-requires
 begun-requires c =
@@ -33,4 +33,4 @@ loop-track-preserved-in-default c = listed_none c.args.self.now.layout c.loop-tr
 
 pub loop-track-preserved : goal.loop-track-preserved
 loop-track-preserved c =
-    c.in-ok-push.ensures.items ∙ listed_some c.args.self.now.layout c.loop-track.track c.in-Some.area (sym c.in-Some.is ∙ c.begun.ensures) _ c.loop-track.invariant
+    c.in_ok-push.ensures.items ∙ listed_some c.args.self.now.layout c.loop-track.track c.in-Some.area (sym c.in-Some.is ∙ c.begun.ensures) _ c.loop-track.invariant

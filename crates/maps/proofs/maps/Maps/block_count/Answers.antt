@@ -6,22 +6,22 @@ use Rattle.maps.proofs.maps.Maps.block_count.Goals as goal
 pub shared-ref-as-front·homes-in : goal.shared-ref-as-front·homes-in
 shared-ref-as-front·homes-in c = let m = c.args.self.now in (laid m.layout m.kept m.eight).few
 
-pub homes-in-requires : goal.homes-in-requires
-homes-in-requires c =
+pub homes_in-requires : goal.homes_in-requires
+homes_in-requires c =
     let m = c.args.self.now in
     let g = laid m.layout m.kept m.eight in
     let few = g.few in
     let long = g.long in
     omega arith
 
-pub overflow-cast-result : goal.overflow-cast-result
-overflow-cast-result c =
+pub overflow_cast-result : goal.overflow_cast-result
+overflow_cast-result c =
     let m = c.args.self.now in
     let few = blocks_few m.layout m.kept m.eight in
-    omega (arith, c.homes-in.ensures)
+    omega (arith, c.homes_in.ensures)
 
 pub returns : goal.returns
 unfolding blocks
 returns c =
     let m = c.args.self.now in
-    record { count = c.homes-in.ensures; homes = homes_placed m.layout m.kept m.eight }
+    record { count = c.homes_in.ensures; homes = homes_placed m.layout m.kept m.eight }

@@ -8,8 +8,8 @@ loop-i-init c = finding_first c.args.self.now.layout c.args.block c.requires
 pub bounds-self-i : goal.bounds-self-i
 bounds-self-i c = let m = c.args.self.now in let few = (laid m.layout m.kept m.eight).few in omega (arith, c.loop-i-test.true)
 
-pub home-at-requires : goal.home-at-requires
-home-at-requires c =
+pub home_at-requires : goal.home_at-requires
+home_at-requires c =
     let m = c.args.self.now in
     finding_fits m.layout m.kept m.eight c.args.block c.loop-i.i c.loop-i.rest c.loop-i.invariant c.loop-i-test.true c.if-rest-band.true
 
@@ -17,7 +17,7 @@ pub returns-then-rest-band : goal.returns-then-rest-band
 returns-then-rest-band c =
     let m = c.args.self.now in
     record {
-      home = c.home-at.ensures ∙ finding_here m.layout m.kept m.eight c.args.block c.loop-i.i c.loop-i.rest c.loop-i.invariant c.loop-i-test.true c.if-rest-band.true;
+      home = c.home_at.ensures ∙ finding_here m.layout m.kept m.eight c.args.block c.loop-i.i c.loop-i.rest c.loop-i.invariant c.loop-i-test.true c.if-rest-band.true;
       homes = homes_placed m.layout m.kept m.eight;
     }
 

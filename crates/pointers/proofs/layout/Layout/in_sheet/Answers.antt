@@ -5,9 +5,9 @@ pub returns : goal.returns
 unfolding layout_in
 returns c =
     λ i. record {
-      groups = c.two-at.ensures i;
+      groups = c.two_at.ensures i;
       homes = c.four_at.ensures i;
-      spares = c.four-at-2.ensures i;
-      start = c.four-at-3.ensures i;
-      secondary = c.four-at-4.ensures i;
+      spares = c.four_at-2.ensures i;
+      start = c.four_at-3.ensures i;
+      secondary = c.four_at-4.ensures i;
     }

@@ -13,7 +13,7 @@ loop-group-preserved c =
     let xs = vec_items c.args.areas.now in
     let more = group_areas l i in
     let next : suc i ≡ i + 1 = omega arith in
-    c.in-ok-add-group.ensures
+    c.in_ok-add_group.ensures
     ∙ ap (λ ys. ys ++ more) c.loop-group.invariant
     ∙ append_assoc xs (areas_of_groups l i) more
     ∙ ap (λ k. xs ++ areas_of_groups l k) next

@@ -5,16 +5,16 @@ use Rattle.pointers.specs.Areas.{Joined}
 use Rattle.pointers.specs.Rules.{last_track}
 use Rattle.pointers.proofs.pointers.Pointers.areas.Goals as goal
 
-pub data-start-zone-requires : goal.data-start-zone-requires
-data-start-zone-requires c = let p = c.args.self.now in omega (arith, (rules_held p).most_spares)
+pub data_start-zone-requires : goal.data_start-zone-requires
+data_start-zone-requires c = let p = c.args.self.now in omega (arith, (rules_held p).most_spares)
 
 pub returns : goal.returns
 returns c =
     let p = c.args.self.now in
-    let last = c.last-track-last.ensures in
-    let copies = c.start-of-copies.ensures ∙ ap (λ n. 31 * (n - 2)) last in
-    let by_Last = c.start-of-end.ensures in
-    let end : c.start-of-end.result + 31 ≡ 31 * (last_track p.sectors + 1) = omega arith in
+    let last = c.last_track-last.ensures in
+    let copies = c.start_of-copies.ensures ∙ ap (λ n. 31 * (n - 2)) last in
+    let by_Last = c.start_of-end.ensures in
+    let end : c.start_of-end.result + 31 ≡ 31 * (last_track p.sectors + 1) = omega arith in
     let e =
-    areas_added (last_track p.sectors) p.layout _ _ _ _ _ _ _ _ _ _ _ _ _ c.start-of-front.ensures c.data-start-zone.ensures c.groups_end.ensures c.zone-end-zone-end.ensures copies end c.new-areas.ensures.items c.in-ok-add.ensures c.in-ok-add-2.ensures c.in-ok-add-groups.ensures c.in-ok-add-3.ensures c.in-ok-add-4.ensures c.in-ok-add-5.ensures in
+    areas_added (last_track p.sectors) p.layout _ _ _ _ _ _ _ _ _ _ _ _ _ c.start_of-front.ensures c.data_start-zone.ensures c.groups_end.ensures c.zone_end-zone_end.ensures copies end c.new-areas.ensures.items c.in_ok-add.ensures c.in_ok-add-2.ensures c.in_ok-add_groups.ensures c.in_ok-add-3.ensures c.in_ok-add-4.ensures c.in_ok-add-5.ensures in
     record { areas = e; whole = subst (Joined 0 (31 * (last_track p.sectors + 1))) (sym e) (areas_joined (last_track p.sectors) p.layout (rules_held p) (size_held p).least) }

@@ -5,8 +5,8 @@ use Rattle.pointers.specs.Places.{blocks}
 use Rattle.pointers.specs.Rules.{last_track}
 use Rattle.pointers.proofs.pointers.Pointers.block_count.Goals as goal
 
-pub count-of-requires : goal.count-of-requires
-count-of-requires c =
+pub count_of-requires : goal.count_of-requires
+count_of-requires c =
     let p = c.args.self.now in
     let h = few_blocks (last_track p.sectors) p.layout (rules_held p) in
     let m = (size_held p).most in
@@ -16,4 +16,4 @@ pub returns : goal.returns
 unfolding blocks
 returns c =
     let p = c.args.self.now in
-    record { count = c.count-of.ensures; places = places_sound (last_track p.sectors) p.layout (rules_held p) }
+    record { count = c.count_of.ensures; places = places_sound (last_track p.sectors) p.layout (rules_held p) }

@@ -5,18 +5,18 @@ use Rattle.pointers.specs.Places.{home, width}
 use Rattle.pointers.specs.Rules.{last_track}
 use Rattle.pointers.proofs.pointers.Pointers.home_of.Goals as goal
 
-pub overflow-add-width : goal.overflow-add-width
-overflow-add-width c =
+pub overflow_add-width : goal.overflow_add-width
+overflow_add-width c =
     let p = c.args.self.now in
     let h = group_below p 0 (rules_held p).some_groups in
     omega arith
 
-pub data-start-requires : goal.data-start-requires
-data-start-requires c = omega (arith, (rules_held c.args.self.now).most_spares)
+pub data_start-requires : goal.data_start-requires
+data_start-requires c = omega (arith, (rules_held c.args.self.now).most_spares)
 
-pub home-at-requires : goal.home-at-requires
+pub home_at-requires : goal.home_at-requires
 unfolding home
-home-at-requires c =
+home_at-requires c =
     let p = c.args.self.now in
     let r = rules_held p in
     let h = home_bounds (last_track p.sectors) p.layout r c.args.block c.requires in
@@ -30,4 +30,4 @@ unfolding home
 returns c =
     let l = c.args.self.now.layout in
     let b = c.args.block in
-    c.home-at.ensures ∙ ap (λ x. x + (b / l.homes * width l + b % l.homes)) c.data_start.ensures
+    c.home_at.ensures ∙ ap (λ x. x + (b / l.homes * width l + b % l.homes)) c.data_start.ensures

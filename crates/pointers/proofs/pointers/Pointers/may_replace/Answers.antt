@@ -14,6 +14,6 @@ returns c =
     let r = rules_held p in
     let spare = c.args.spare in
     let sector = c.args.sector in
-    let e : c.may-stand.result ≡ may_replace p.layout spare sector =
-    c.may-stand.ensures ∙ λ i. c.is-home-home.ensures i && (c.is-secondary-secondary.ensures i || eqb (c.group-at.ensures i) (c.group-at-2.ensures i)) in
+    let e : c.may_stand.result ≡ may_replace p.layout spare sector =
+    c.may_stand.ensures ∙ λ i. c.is_home-home.ensures i && (c.is_secondary-secondary.ensures i || eqb (c.group_at.ensures i) (c.group_at-2.ensures i)) in
     record { answer = e; meaning = λ m. Decides-at _ _ e (may_only n p.layout r spare sector m, may_from n p.layout r spare sector) }

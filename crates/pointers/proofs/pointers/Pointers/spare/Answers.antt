@@ -4,23 +4,23 @@ use Rattle.pointers.proofs.Spared.{get_or_behind_group, get_or_behind_secondary,
 use Rattle.std.proofs.lemmas.Bool.{eqb-false, eqb-true}
 use Rattle.pointers.proofs.pointers.Pointers.spare.Goals as goal
 
-pub overflow-mul-primary : goal.overflow-mul-primary
-overflow-mul-primary c = omega (arith, (rules_held c.args.self.now).most_spares)
+pub overflow_mul-primary : goal.overflow_mul-primary
+overflow_mul-primary c = omega (arith, (rules_held c.args.self.now).most_spares)
 
 pub returns-then-index-secondary : goal.returns-then-index-secondary
 returns-then-index-secondary c =
-    c.secondary.ensures ∙ sym (get_or_front_secondary c.args.self.now.layout c.args.index (eqb-true _ _ (sym c.if-is-secondary-first.ensures)) c.if-index-secondary.true)
+    c.secondary.ensures ∙ sym (get_or_front_secondary c.args.self.now.layout c.args.index (eqb-true _ _ (sym c.if-is_secondary_first.ensures)) c.if-index-secondary.true)
 
-pub group-spare-requires : goal.group-spare-requires
-group-spare-requires c = let h = c.requires in omega (arith, length_all_spares c.args.self.now.layout)
+pub group_spare-requires : goal.group_spare-requires
+group_spare-requires c = let h = c.requires in omega (arith, length_all_spares c.args.self.now.layout)
 
-pub returns-then-is-secondary-first : goal.returns-then-is-secondary-first
-returns-then-is-secondary-first c =
-    c.group-spare.ensures ∙ sym (get_or_front_group c.args.self.now.layout c.args.index (eqb-true _ _ (sym c.if-is-secondary-first.ensures)) c.if-index-secondary.false)
+pub returns-then-is_secondary_first : goal.returns-then-is_secondary_first
+returns-then-is_secondary_first c =
+    c.group_spare.ensures ∙ sym (get_or_front_group c.args.self.now.layout c.args.index (eqb-true _ _ (sym c.if-is_secondary_first.ensures)) c.if-index-secondary.false)
 
 pub returns-then-index-primary : goal.returns-then-index-primary
 returns-then-index-primary c =
-    c.group-spare-then-index-primary.ensures ∙ sym (get_or_behind_group c.args.self.now.layout c.args.index (eqb-false _ _ (sym c.if-is-secondary-first.ensures)) c.if-index-primary.true)
+    c.group_spare-then-index-primary.ensures ∙ sym (get_or_behind_group c.args.self.now.layout c.args.index (eqb-false _ _ (sym c.if-is_secondary_first.ensures)) c.if-index-primary.true)
 
 pub secondary-requires-2 : goal.secondary-requires-2
 secondary-requires-2 c = let h = c.requires in omega (arith, length_all_spares c.args.self.now.layout)
@@ -30,4 +30,4 @@ returns c =
     let l = c.args.self.now.layout in
     let h = c.requires in
     let b = c.if-index-primary.false in
-    c.secondary-2.ensures ∙ sym (get_or_behind_secondary l c.args.index (eqb-false _ _ (sym c.if-is-secondary-first.ensures)) b (omega (arith, length_all_spares l)))
+    c.secondary-2.ensures ∙ sym (get_or_behind_secondary l c.args.index (eqb-false _ _ (sym c.if-is_secondary_first.ensures)) b (omega (arith, length_all_spares l)))

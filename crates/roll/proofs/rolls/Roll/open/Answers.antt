@@ -14,10 +14,10 @@ invariant-of-result c =
     let p = c.args.count in
     let u = c.in-Some.used in
     let last = c.wind.new.index in
-    let sized = c.if-not-is-sized.ensures.0 refl in
-    let long : length last ≡ p = c.wind.auto.index ∙ c.as-mut-slice.ensures.len ∙ c.in-Ok.ensures.made.1 in
+    let sized = c.if-not-is_sized.ensures.0 refl in
+    let long : length last ≡ p = c.wind.auto.index ∙ c.as_mut_slice.ensures.len ∙ c.in-Ok.ensures.made.1 in
     let same = with_items_is c.in-Ok.index last (long ∙ sym c.in-Ok.ensures.made.1) in
-    let found = subst (λ ys. WoundUp ys last p u) c.as-slice.ensures.value c.in-Some.ensures in
+    let found = subst (λ ys. WoundUp ys last p u) c.as_slice.ensures.value c.in-Some.ensures in
     let all = subst (λ ys. WoundUp xs ys p u × (length ys ≡ p)) (sym same) (found, long) in
     let wound = all.0 in (
       sized.0,
@@ -35,8 +35,8 @@ returns-in-Some c =
     let xs = vec_items c.args.memory in
     let p = c.args.count in
     let u = c.in-Some.used in
-    let sized = c.if-not-is-sized.ensures.0 refl in
-    let found = subst (λ ys. WoundUp ys c.wind.new.index p u) c.as-slice.ensures.value c.in-Some.ensures in
+    let sized = c.if-not-is_sized.ensures.0 refl in
+    let found = subst (λ ys. WoundUp ys c.wind.new.index p u) c.as_slice.ensures.value c.in-Some.ensures in
     record {
       openable = ((sized.0, sized.1, sym c.args.memory.ok.0 ∙ sym c.len.ensures ∙ sized.2), (found.0, (u, found.1)));
       holds_memory = refl;

@@ -7,6 +7,6 @@ judged : (xs ys : List ℕ) (p : ℕ) (r : Option ℕ) → Verdicts xs p → Mat
 judged xs ys p None v h = λ f. h f.1.0 f.1.1
 judged xs ys p (Some u) v h = (v, h.0, h.1, h.2)
 
-pub returns-then-are-verdicts : goal.returns-then-are-verdicts
-returns-then-are-verdicts c =
-    judged c.args.memory.now c.fill-index.new.index c.args.count c.fill-index.result (c.if-are-verdicts.ensures.0 refl) c.fill-index.ensures
+pub returns-then-are_verdicts : goal.returns-then-are_verdicts
+returns-then-are_verdicts c =
+    judged c.args.memory.now c.fill_index.new.index c.args.count c.fill_index.result (c.if-are_verdicts.ensures.0 refl) c.fill_index.ensures

@@ -11,18 +11,18 @@ use Rattle.std.specs.Vec.{with_items}
 use Rattle.std.specs.declared.alloc.Global.{Global}
 use Rattle.plate.proofs.plates.access.PlateMedium.burn.Goals as goal
 
-pub returns-in-err-reach : goal.returns-in-err-reach
-returns-in-err-reach c =
-    let out = err_from_is_err_and c.from-residual.result c.from-residual.ensures.1 in
-    let r = burn_refused c.args.self.now c.args.sector c.args.image.now c.in-err-reach.field-0.0 c.in-err-reach.ensures in
+pub returns-in_err-reach : goal.returns-in_err-reach
+returns-in_err-reach c =
+    let out = err_from_is_err_and c.from_residual.result c.from_residual.ensures.1 in
+    let r = burn_refused c.args.self.now c.args.sector c.args.image.now c.in_err-reach.field-0.0 c.in_err-reach.ensures in
     record { answer = out.1 ∙ ap Err out.2 ∙ r.0; after = r.1; cell = record { bytes = r.2; same_flaws = refl; same_count = refl }; untouched = λ x h. refl }
 
-pub returns-then-mark-of-ne-BLANK : goal.returns-then-mark-of-ne-BLANK
-returns-then-mark-of-ne-BLANK c =
-    let e = c.in-ok-reach.ensures in
-    let mark = ap (λ ys. mark_at ys c.args.sector) (sym c.as-slice.ensures.value) ∙ sym c.mark-of.ensures in
-    let r = burn_burnt c.args.self.now c.args.sector c.args.image.now e _ refl (λ z. c.if-mark-of-ne-BLANK.true (sym mark ∙ z)) in
-    record { answer = ap Err c.in-medium.ensures ∙ r.0; after = r.1; cell = record { bytes = r.2; same_flaws = refl; same_count = refl }; untouched = λ x h. refl }
+pub returns-then-mark_of-ne-BLANK : goal.returns-then-mark_of-ne-BLANK
+returns-then-mark_of-ne-BLANK c =
+    let e = c.in_ok-reach.ensures in
+    let mark = ap (λ ys. mark_at ys c.args.sector) (sym c.as_slice.ensures.value) ∙ sym c.mark_of.ensures in
+    let r = burn_burnt c.args.self.now c.args.sector c.args.image.now e _ refl (λ z. c.if-mark_of-ne-BLANK.true (sym mark ∙ z)) in
+    record { answer = ap Err c.in_medium.ensures ∙ r.0; after = r.1; cell = record { bytes = r.2; same_flaws = refl; same_count = refl }; untouched = λ x h. refl }
 
 -- the memory once the cell is filled
 filled : (v : Vec ℕ Global) (ws ys : List ℕ) (p i : ℕ) (image : List ℕ) → length (vec_items v) ≡ 525 * p → i < p → length image ≡ 524 → ys ≡ vec_items v → ws ≡ with_image ys i image → vec_items (with_items v ws) ≡ with_image (vec_items v) i image
@@ -36,10 +36,10 @@ invariant-of-self c =
     let xs = vec_items p.memory in
     let i = c.args.sector in
     let image = c.args.image.now in
-    let e = c.in-ok-reach.ensures in
+    let e = c.in_ok-reach.ensures in
     let h : i < p.count = within p.count i (length image) e in
     let w : length image ≡ 524 = whole_image p.count i (length image) e in
-    let k = filled p.memory c.fill-cell.new.memory c.as-mut-slice.result.now p.count i image p.sized h w c.as-mut-slice.ensures.value c.fill-cell.ensures in (
+    let k = filled p.memory c.fill_cell.new.memory c.as_mut_slice.result.now p.count i image p.sized h w c.as_mut_slice.ensures.value c.fill_cell.ensures in (
       p.some,
       (
         p.few,
@@ -58,11 +58,11 @@ returns c =
     let p = c.args.self.now in
     let i = c.args.sector in
     let image = c.args.image.now in
-    let e = c.in-ok-reach.ensures in
+    let e = c.in_ok-reach.ensures in
     let h : i < p.count = within p.count i (length image) e in
     let w : length image ≡ 524 = whole_image p.count i (length image) e in
-    let k = filled p.memory c.fill-cell.new.memory c.as-mut-slice.result.now p.count i image p.sized h w c.as-mut-slice.ensures.value c.fill-cell.ensures in
-    let mark = ap (λ ys. mark_at ys c.args.sector) (sym c.as-slice.ensures.value) ∙ sym c.mark-of.ensures in
-    let flawed = c.any-covers.ensures ∙ ap (λ fs. covered fs i) c.as-slice-2.ensures.value in
-    let r = burn_blank p i image e _ (sym flawed) (with_items p.memory c.fill-cell.new.memory) (mark ∙ c.if-mark-of-ne-BLANK.false) k in
+    let k = filled p.memory c.fill_cell.new.memory c.as_mut_slice.result.now p.count i image p.sized h w c.as_mut_slice.ensures.value c.fill_cell.ensures in
+    let mark = ap (λ ys. mark_at ys c.args.sector) (sym c.as_slice.ensures.value) ∙ sym c.mark_of.ensures in
+    let flawed = c.any_covers.ensures ∙ ap (λ fs. covered fs i) c.as_slice-2.ensures.value in
+    let r = burn_blank p i image e _ (sym flawed) (with_items p.memory c.fill_cell.new.memory) (mark ∙ c.if-mark_of-ne-BLANK.false) k in
     record { answer = ap Ok c.of.ensures ∙ r.0; after = r.1; cell = record { bytes = r.2; same_flaws = refl; same_count = refl }; untouched = λ x h. let z : ◌≡◌ {A = ℕ} 0 1 = cc in absurd (omega arith) }

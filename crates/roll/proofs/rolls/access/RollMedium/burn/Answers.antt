@@ -11,11 +11,11 @@ use Rattle.std.specs.Vec.{with_items}
 use Rattle.std.specs.declared.alloc.Global.{Global}
 use Rattle.roll.proofs.rolls.access.RollMedium.burn.Goals as goal
 
-pub returns-in-err-reach : goal.returns-in-err-reach
-returns-in-err-reach c =
+pub returns-in_err-reach : goal.returns-in_err-reach
+returns-in_err-reach c =
     let m = c.args.self.now in
-    let out = err_from_is_err_and c.from-residual.result c.from-residual.ensures.1 in
-    let r = burn_refused m c.args.sector c.args.image.now c.in-err-reach.field-0.0 c.in-err-reach.ensures in
+    let out = err_from_is_err_and c.from_residual.result c.from_residual.ensures.1 in
+    let r = burn_refused m c.args.sector c.args.image.now c.in_err-reach.field-0.0 c.in_err-reach.ensures in
     record {
       answer = out.1 ∙ ap Err out.2 ∙ r.0;
       after = r.1;
@@ -26,9 +26,9 @@ returns-in-err-reach c =
 pub returns-then-index : goal.returns-then-index
 returns-then-index c =
     let m = c.args.self.now in
-    let r = burn_burnt m c.args.sector c.args.image.now c.in-ok-reach.ensures c.index.result.now c.index.ensures _ refl c.if-index.true in
+    let r = burn_burnt m c.args.sector c.args.image.now c.in_ok-reach.ensures c.index.result.now c.index.ensures _ refl c.if-index.true in
     record {
-      answer = ap Err c.in-medium.ensures ∙ r.0;
+      answer = ap Err c.in_medium.ensures ∙ r.0;
       after = r.1;
       untouched = λ x h. refl;
       slot = record { first_unused = (m.within, m.numbered, m.distinct, m.unused); bytes = r.2; same_count = refl };
@@ -45,12 +45,12 @@ module _ (m : Roll) (i : ℕ) (image : List ℕ) (e : Ok tt ≡ reaching m.count
   still_kept : Kept m i image e n read none (vec_items after)
   still_kept = subst (Kept m i image e n read none) (sym new_bytes) (kept m i image e n read none)
 
-pub write-slot-requires : goal.write-slot-requires
-write-slot-requires c =
+pub write_slot-requires : goal.write_slot-requires
+write_slot-requires c =
     let m = c.args.self.now in
     let image = c.args.image.now in
-    let e = c.in-ok-reach.ensures in (
-      omega (arith, m.sized, room_left m c.args.sector image e c.index.result.now c.index.ensures c.if-index.false, ap length c.as-mut-slice.ensures.value),
+    let e = c.in_ok-reach.ensures in (
+      omega (arith, m.sized, room_left m c.args.sector image e c.index.result.now c.index.ensures c.if-index.false, ap length c.as_mut_slice.ensures.value),
       whole_image m.count c.args.sector (length image) e,
     )
 
@@ -59,9 +59,9 @@ invariant-of-self c =
     let m = c.args.self.now in
     let i = c.args.sector in
     let image = c.args.image.now in
-    let e = c.in-ok-reach.ensures in
+    let e = c.in_ok-reach.ensures in
     let n = c.index.result.now in
-    let k = still_kept m i image e n c.index.ensures c.if-index.false c.write-slot.new.memory c.as-mut-slice.result.now c.as-mut-slice.ensures.value (c.write-slot.ensures ∙ ap (λ at. with_slot c.as-mut-slice.result.now at i image) c.slot-at-at.ensures) in
+    let k = still_kept m i image e n c.index.ensures c.if-index.false c.write_slot.new.memory c.as_mut_slice.result.now c.as_mut_slice.ensures.value (c.write_slot.ensures ∙ ap (λ at. with_slot c.as_mut_slice.result.now at i image) c.slot_at-at.ensures) in
     let room = room_then m i image e n c.index.ensures c.if-index.false in (
       m.some,
       (
@@ -81,12 +81,12 @@ returns c =
     let m = c.args.self.now in
     let i = c.args.sector in
     let image = c.args.image.now in
-    let e = c.in-ok-reach.ensures in
+    let e = c.in_ok-reach.ensures in
     let n = c.index.result.now in
-    let v = with_items m.memory c.write-slot.new.memory in
-    let k = new_bytes m i image e n c.index.ensures c.if-index.false c.write-slot.new.memory c.as-mut-slice.result.now c.as-mut-slice.ensures.value (c.write-slot.ensures ∙ ap (λ at. with_slot c.as-mut-slice.result.now at i image) c.slot-at-at.ensures) in
-    let judged = judged_then m i image e n c.index.ensures c.if-index.false c.as-slice.result.now (c.as-slice.ensures.value ∙ k) in
-    let r = burn_blank m i image e n c.index.ensures c.if-index.false v _ (sym judged ∙ sym c.is-weak.ensures) k in
+    let v = with_items m.memory c.write_slot.new.memory in
+    let k = new_bytes m i image e n c.index.ensures c.if-index.false c.write_slot.new.memory c.as_mut_slice.result.now c.as_mut_slice.ensures.value (c.write_slot.ensures ∙ ap (λ at. with_slot c.as_mut_slice.result.now at i image) c.slot_at-at.ensures) in
+    let judged = judged_then m i image e n c.index.ensures c.if-index.false c.as_slice.result.now (c.as_slice.ensures.value ∙ k) in
+    let r = burn_blank m i image e n c.index.ensures c.if-index.false v _ (sym judged ∙ sym c.is_weak.ensures) k in
     record {
       answer = ap Ok c.of.ensures ∙ r.0;
       after = r.1;
