@@ -13,7 +13,7 @@ import re
 import sys
 from collections import defaultdict
 
-TOKEN = re.compile(r"[^\s(){}\[\];,.@\"«»]+")
+TOKEN = re.compile(r"[^\s(){}\[\];:,.@\"«»]+")
 DASHED = re.compile(r"[A-Za-z_][\w']*(?:-[\w'+]+)+")
 WORDS = r"(?:(?:abbrev|unfoldable|opaque|pub|data|record)\s+)*"
 SIGNED = re.compile(r"^\s*" + WORDS + r"(?P<name>[A-Za-z_][^\s(){};,.:]*)(?P<more>[^:=]*):(?P<type>.*)")

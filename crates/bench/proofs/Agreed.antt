@@ -1,11 +1,11 @@
 -- What an accepted burn answered agrees with what is then read back.
-use Rattle.std.proofs.Common.{◌≡◌, ℕ, ◌<◌, Bool, true, false, cond, ltb, List, map, length, Ok, Result, sym, refl, ap, ◌∙◌, ⊎_elim, arith}
+use Rattle.std.proofs.Common.{◌≡◌, ℕ, ◌<◌, Bool, true, false, List, map, length, Ok, Result, sym, refl, ap, ◌∙◌, ⊎_elim, arith}
 use Rattle.bench.specs.Trials.{compared, no_reading, reading_at, reading_back}
 use Rattle.bench.specs.declared.compare.ReadBack.{ReadBack}
 use Rattle.bench.specs.declared.compare.ReadBack.TheVariants.{Same, Spoiled}
 use Rattle.medium.specs.Calls.{reaches, verdict}
 use Rattle.medium.specs.Runs.{Accepted, WrittenOnce, answer_at, burn_at, no_burn}
-use Rattle.medium.specs.Sectors.{Sector, State, beyond, blank, burnt, sector_at}
+use Rattle.medium.specs.Sectors.{Sector, State, beyond, burnt, sector_at}
 use Rattle.medium.specs.declared.faults.Fault.{Fault}
 use Rattle.medium.specs.declared.interface.Verdict.{Verdict}
 use Rattle.medium.specs.declared.interface.Verdict.TheVariants.{Sound, Weak}

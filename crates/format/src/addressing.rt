@@ -18,9 +18,9 @@ pub trait Addressing {
 
     const FIRST_TRACK: i32;
 
-    ghost perTrack: { ℕ };
+    ghost track_size: { ℕ };
 
-    ghost firstTrack: { ℤ };
+    ghost start_track: { ℤ };
 
     fn per_track() -> u32
         ensures { result ≡ track_size };

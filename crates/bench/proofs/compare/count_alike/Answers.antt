@@ -4,7 +4,7 @@ use Rattle.bench.specs.declared.compare.ReadBack.{ReadBack}
 use Rattle.medium.specs.declared.faults.Fault.{Fault}
 use Rattle.std.proofs.lemmas.List.{at_drop_all, at_drop_more}
 use Rattle.bench.proofs.compare.count_alike.Goals as goal
-use Rattle.bench.proofs.compare.count_alike.Goals.{else-is-same, then-is-same}
+use Rattle.bench.proofs.compare.count_alike.Goals.{else-is_same, then-is_same}
 
 -- reading i is alike or not, by b
 step : (xs : List (Result ReadBack Fault)) (i n : ℕ) (b : Bool) → i < length xs → b ≡ found_same (get_or xs i no_reading) → n + alike (drop i xs) ≡ alike xs → n + one_if b + alike (drop (i + 1) xs) ≡ alike xs
@@ -15,8 +15,8 @@ loop-reading-preserved c =
     let xs = c.args.readings.now in
     let i = c.loop-reading.reading-index in
     elim c.if-is_same.branch [
-      | then-is-same w ↦ (omega (arith, w.count-is, step xs i c.loop-reading.count true c.loop-reading-test.true (sym w.if-is_same.true ∙ c.is_same.ensures) c.loop-reading.invariant.0), omega (arith, w.count-is))
-      | else-is-same w ↦ (omega (arith, w.count-is, step xs i c.loop-reading.count false c.loop-reading-test.true (sym w.if-is_same.false ∙ c.is_same.ensures) c.loop-reading.invariant.0), omega (arith, w.count-is))
+      | then-is_same w ↦ (omega (arith, w.count-is, step xs i c.loop-reading.count true c.loop-reading-test.true (sym w.if-is_same.true ∙ c.is_same.ensures) c.loop-reading.invariant.0), omega (arith, w.count-is))
+      | else-is_same w ↦ (omega (arith, w.count-is, step xs i c.loop-reading.count false c.loop-reading-test.true (sym w.if-is_same.false ∙ c.is_same.ensures) c.loop-reading.invariant.0), omega (arith, w.count-is))
     ]
 
 pub returns : goal.returns

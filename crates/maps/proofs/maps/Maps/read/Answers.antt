@@ -20,8 +20,8 @@ pub returns-then-not-is_identified-is_valid : goal.returns-then-not-is_identifie
 returns-then-not-is_identified-is_valid c =
     record { answer = broken c.args.sectors c.args.sheet.now _ _ c.if-not-fits_format.ensures c.layout_in-layout.ensures (tested _ _ _ _ c.is_identified.ensures c.is_valid.ensures ∙ c.if-not-is_identified-is_valid.true) c.fault-then-not-is_identified-is_valid.ensures; rules = refused_rules c.args.sectors c.args.sheet.now _ _ c.if-not-fits_format.ensures c.layout_in-layout.ensures (tested _ _ _ _ c.is_identified.ensures c.is_valid.ensures ∙ c.if-not-is_identified-is_valid.true) c.fault-then-not-is_identified-is_valid.ensures }
 
-pub invariant-of-result : goal.invariant-of-result
-invariant-of-result c =
+pub invariant_of-result : goal.invariant_of-result
+invariant_of-result c =
     let d = c.args.sheet.now in
     let t = tested _ _ _ _ c.is_identified.ensures c.is_valid.ensures ∙ c.if-not-is_identified-is_valid.false in
     let laid = read_laid c.args.sectors d _ c.if-not-fits_format.ensures c.layout_in-layout.ensures in

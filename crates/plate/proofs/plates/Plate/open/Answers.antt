@@ -8,8 +8,8 @@ use Rattle.plate.proofs.plates.Plate.open.Goals as goal
 lent : (xs ys : List ℕ) (fs gs : List Flaw) (p : ℕ) → xs ≡ ys → fs ≡ gs → PlateOpenable xs fs p → PlateOpenable ys gs p
 lent xs ys fs gs p e f h = rw (← e, ← f) h
 
-pub invariant-of-result : goal.invariant-of-result
-invariant-of-result c =
+pub invariant_of-result : goal.invariant_of-result
+invariant_of-result c =
     let h = lent _ _ _ _ c.args.count c.as_slice.ensures.value c.as_slice-2.ensures.value c.in-Ok.ensures in (
       h.0.0,
       (h.0.1, (h.0.2, (h.1.0, (h.1.1.few, (h.1.1.sorted, (h.1.1.inside, (h.1.1.apart, (length_plate (vec_items c.args.memory) (vec_items c.args.flaws) c.args.count, tt)))))))),

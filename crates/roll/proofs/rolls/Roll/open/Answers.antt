@@ -8,8 +8,8 @@ use Rattle.roll.proofs.rolls.Roll.open.Goals as goal
 abbrev WoundUp : List ℕ → List ℕ → ℕ → ℕ → Type 0
 WoundUp xs index p u = Verdicts xs p × UsedSlots xs p p u × Indexed xs p p index × (free index + u ≡ p)
 
-pub invariant-of-result : goal.invariant-of-result
-invariant-of-result c =
+pub invariant_of-result : goal.invariant_of-result
+invariant_of-result c =
     let xs = vec_items c.args.memory in
     let p = c.args.count in
     let u = c.in-Some.used in

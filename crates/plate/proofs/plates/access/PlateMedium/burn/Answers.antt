@@ -30,8 +30,8 @@ filled v ws ys p i image sized h whole e f =
     let g = f ∙ ap (λ zs. with_image zs i image) e in
     with_items_is v ws (ap length g ∙ length_with_image (vec_items v) i image (omega arith) whole ∙ sym v.ok.0) ∙ g
 
-pub invariant-of-self : goal.invariant-of-self
-invariant-of-self c =
+pub invariant_of-self : goal.invariant_of-self
+invariant_of-self c =
     let p = c.args.self.now in
     let xs = vec_items p.memory in
     let i = c.args.sector in

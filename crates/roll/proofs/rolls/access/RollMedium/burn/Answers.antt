@@ -54,8 +54,8 @@ write_slot-requires c =
       whole_image m.count c.args.sector (length image) e,
     )
 
-pub invariant-of-self : goal.invariant-of-self
-invariant-of-self c =
+pub invariant_of-self : goal.invariant_of-self
+invariant_of-self c =
     let m = c.args.self.now in
     let i = c.args.sector in
     let image = c.args.image.now in
