@@ -1,5 +1,5 @@
 -- What reading and burning a sector of an open plate come to, way by way.
-use Rattle.std.proofs.Common.{◌≡◌, ℕ, ◌+◌, ◌*◌, ◌<◌, ◌≤◌, Bool, true, false, cond, ◌&&◌, eqb, List, length, Ok, Err, vec_items, Vec, sym, refl, ap, ◌∙◌, arith}
+use Rattle.std.proofs.Common.{◌≡◌, ℕ, ◌<◌, Bool, true, false, cond, ◌&&◌, eqb, List, length, Ok, Err, vec_items, Vec, sym, refl, ap, ◌∙◌}
 use Rattle.medium.proofs.Reached.{burning_as, burning_refused, image_as, in_reach, out_of_reach, reading_as, sectors_as, sectors_refused, whole_image, within}
 use Rattle.medium.specs.Calls.{burning, filled, image_after, reaches, reaching, reading, sectors_after, shown, verdict}
 use Rattle.medium.specs.Faults.{medium_fault}
@@ -7,7 +7,7 @@ use Rattle.medium.specs.declared.faults.Fault.{Fault}
 use Rattle.medium.specs.declared.faults.Refusal.TheVariants.{AlreadyBurnt}
 use Rattle.medium.specs.declared.interface.Reading.TheVariants.{Blank}
 use Rattle.plate.specs.Sectored.{blank_at, burnt_at, length_plate, plate_burnt}
-use Rattle.medium.specs.Sectors.{Sector, blank, burnt, sector_at}
+use Rattle.medium.specs.Sectors.{Sector, burnt, sector_at}
 use Rattle.plate.specs.Access.{sectors_of}
 use Rattle.plate.specs.Cells.{bytes_after, image_at, mark_at, with_image}
 use Rattle.plate.specs.Flaws.{covered}

@@ -1,5 +1,5 @@
 -- The bytes of a plate: for each sector a cell of 525 bytes, a mark and then the sector's 524 bytes.
-use Rattle.std.specs.Prelude.{◌≡◌, ℕ, ◌+◌, ◌*◌, ◌<◌, ◌≤◌, cond, ◌&&◌, List, ◌∷◌, ◌++◌, length, take, drop, ◌==◌, slice_index}
+use Rattle.std.specs.Prelude.{ℕ, ◌+◌, ◌*◌, ◌<◌, ◌≤◌, cond, ◌&&◌, List, ◌∷◌, ◌++◌, length, take, drop, ◌==◌, slice_index}
 use Rattle.medium.specs.Calls.{reaches}
 use Rattle.medium.specs.Sectors.{State, blank, burnt}
 

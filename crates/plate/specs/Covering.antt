@@ -1,5 +1,5 @@
 -- The test of a flaw list for a sector says whether some flaw of it covers the sector.
-use Rattle.std.specs.Prelude.{◌≡◌, ℕ, zero, suc, ◌<◌, Bool, true, false, ◌||◌, List, [], ◌∷◌, length, Decides, nat_le, nat_lt, refl}
+use Rattle.std.specs.Prelude.{◌≡◌, ℕ, zero, suc, ◌<◌, Bool, true, ◌||◌, List, [], ◌∷◌, length, Decides, nat_le, nat_lt}
 use Rattle.std.proofs.Common.{⊎_elim, arith}
 use Rattle.plate.specs.Flaws.{Covered, Covers, covered, covers, end_of, flaw_at}
 use Rattle.plate.specs.declared.flaws.Flaw.{Flaw}

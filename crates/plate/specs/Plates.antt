@@ -1,5 +1,5 @@
 -- What a plate means, and what memory and flaw list it can be opened with.
-use Rattle.std.specs.Prelude.{◌≡◌, ℕ, ◌*◌, ◌<◌, ◌≤◌, Bool, ◌⊎◌, List, map, length, Decides}
+use Rattle.std.specs.Prelude.{◌≡◌, ℕ, ◌*◌, ◌<◌, ◌≤◌, ◌⊎◌, List, map, length, Decides}
 use Rattle.medium.specs.Faults.{medium_fault}
 use Rattle.medium.specs.Sectors.{Sector, blank, burnt, sector_at}
 use Rattle.medium.specs.declared.faults.Fault.{Fault}

@@ -1,9 +1,9 @@
 -- What reading and burning a sector of an open roll come to, way by way.
-use Rattle.std.proofs.Common.{◌≡◌, ℕ, ◌+◌, ◌*◌, ◌<◌, ◌≤◌, Bool, true, false, cond, ◌&&◌, eqb, List, length, get_or, set, Some, None, Ok, Err, vec_items, Option, Vec, sym, refl, ap, ◌∙◌, subst, arith}
+use Rattle.std.proofs.Common.{◌≡◌, ℕ, ◌+◌, ◌*◌, ◌<◌, Bool, cond, ◌&&◌, eqb, List, length, get_or, set, Some, None, Ok, Err, vec_items, Option, Vec, sym, ap, ◌∙◌, subst, arith}
 use Rattle.medium.proofs.Reached.{burning_as, burning_refused, image_as, in_reach, out_of_reach, reading_as, sectors_as, sectors_refused, whole_image, within}
 use Rattle.medium.specs.Calls.{burning, filled, image_after, reaches, reaching, reading, sectors_after, shown, verdict}
 use Rattle.medium.specs.Faults.{medium_fault}
-use Rattle.medium.specs.Sectors.{Sector, blank, burnt, is_blank, sector_at}
+use Rattle.medium.specs.Sectors.{Sector, burnt, is_blank, sector_at}
 use Rattle.medium.specs.declared.faults.Fault.{Fault}
 use Rattle.medium.specs.declared.faults.Refusal.TheVariants.{AlreadyBurnt}
 use Rattle.medium.specs.declared.interface.Reading.TheVariants.{Blank}

@@ -1,13 +1,13 @@
 -- Which slot holds a sector, slot by slot.
-use Rattle.std.specs.Prelude.{◌≡◌, ℕ, zero, suc, ◌+◌, ◌<◌, ◌≤◌, Bool, true, false, cond, ◌⊎◌, List, [], ◌∷◌, length, replicate, Some, None, Option, ◌==◌, ◌≢◌, slice_index, slice_set, refl}
-use Rattle.std.proofs.Common.{sym, ◌∙◌, inl, inr, add-one}
+use Rattle.std.specs.Prelude.{◌≡◌, ℕ, zero, suc, ◌+◌, ◌<◌, ◌≤◌, cond, List, length, replicate, Some, None, Option, ◌==◌, ◌≢◌, slice_index, slice_set, refl}
+use Rattle.std.proofs.Common.{sym, ◌∙◌, add-one}
 use Rattle.std.proofs.Math.Path.{ap, subst}
 use Rattle.std.proofs.Math.Logic.{⊎_elim}
 use native.Mathlib.Omega.{arith}
-use Rattle.std.proofs.lemmas.List.{get_or-set_same, get_or-set_other, length-set}
+use Rattle.std.proofs.lemmas.List.{get_or-set_same, get_or-set_other}
 use Rattle.std.proofs.lemmas.List.Sums.{sum_by-cons, sum_by-set}
 use Rattle.std.proofs.lemmas.Bool.{cases_Bool, cases_eq, cases_lt, cond-true, cond-false, eqb-true, eqb-false, eq-eqb, ne_eqb}
-use Rattle.roll.specs.Slots.{slot_number, slot_of, slot_code, UsedSlots, Numbered, Distinct, Unused, Indexed, free}
+use Rattle.roll.specs.Slots.{slot_number, slot_of, slot_code, UsedSlots, Indexed, free}
 
 module _ (xs : List ℕ) (p : ℕ) where
   -- what it says that a slot, or none, holds sector i

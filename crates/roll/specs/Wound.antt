@@ -4,7 +4,7 @@ use Rattle.std.proofs.Common.{sym, ap, subst, ◌∙◌, ⊎_elim, mod-eq_of_lt,
 use Rattle.std.proofs.lemmas.Nat.{div-add-mod', shr-shr, shr_below}
 use Rattle.std.proofs.lemmas.List.{same_lists, length-take, length-drop, length-append, length-take-le, get_or-take, get_or-drop, get_or_append_left, get_or-append_right, get_or-set_same, get_or-set_other}
 use Rattle.std.proofs.lemmas.Bool.{cases_eq, cases_lt, eq-eqb, eqb-true}
-use Rattle.medium.specs.Sectors.{Sector, blank, burnt, sector_at, Whole, Lawful}
+use Rattle.medium.specs.Sectors.{Sector, burnt, sector_at, Whole, Lawful}
 use Rattle.medium.specs.Calls.{with_burnt}
 use Rattle.roll.specs.Rolls.{RollMeans, roll_sector, roll_sectors}
 use Rattle.roll.specs.Slots.{Indexed, UsedSlots, Verdicts, four_bytes, held, number_at, slot_code, slot_image, slot_number, slot_of, verdict_at, with_slot}

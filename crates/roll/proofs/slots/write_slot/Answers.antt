@@ -2,7 +2,7 @@ use Rattle.std.proofs.Common.{◌≡◌, ◌+◌, ◌-◌, ◌++◌, length, tak
 use borrow.Rule.Slice.PartMut.{put_mid}
 use Rattle.std.proofs.lemmas.List.{append_assoc, drop-drop}
 use Rattle.std.proofs.lemmas.Slice.{take-put_mid, drop-put_mid}
-use Rattle.roll.specs.Slots.{four_bytes, with_slot}
+use Rattle.roll.specs.Slots.{four_bytes}
 use Rattle.roll.proofs.slots.write_slot.Goals as goal
 
 pub returns : goal.returns

@@ -10,10 +10,18 @@ lent xs ys fs gs p e f h = rw (← e, ← f) h
 
 pub invariant_of-result : goal.invariant_of-result
 invariant_of-result c =
-    let h = lent _ _ _ _ c.args.count c.as_slice.ensures.value c.as_slice-2.ensures.value c.in-Ok.ensures in (
-      h.0.0,
-      (h.0.1, (h.0.2, (h.1.0, (h.1.1.few, (h.1.1.sorted, (h.1.1.inside, (h.1.1.apart, (length_plate (vec_items c.args.memory) (vec_items c.args.flaws) c.args.count, tt)))))))),
-    )
+    let h = lent _ _ _ _ c.args.count c.as_slice.ensures.value c.as_slice-2.ensures.value c.in-Ok.ensures in
+    record {
+      some = h.0.0;
+      few = h.0.1;
+      sized = h.0.2;
+      marked = h.1.0;
+      short = h.1.1.few;
+      sorted = h.1.1.sorted;
+      inside = h.1.1.inside;
+      apart = h.1.1.apart;
+      row = length_plate (vec_items c.args.memory) (vec_items c.args.flaws) c.args.count;
+    }
 
 pub returns-in-Ok : goal.returns-in-Ok
 returns-in-Ok c =

@@ -1,4 +1,4 @@
-use Rattle.std.proofs.Common.{◌≡◌, ℕ, ◌+◌, List, length, vec_items, sym, refl, ap, ◌∙◌, subst, arith}
+use Rattle.std.proofs.Common.{◌≡◌, ℕ, ◌+◌, List, length, vec_items, sym, refl, ◌∙◌, subst}
 use Rattle.roll.specs.Wound.{length_roll, roll_means}
 use Rattle.roll.specs.Slots.{Indexed, UsedSlots, Verdicts, free}
 use Rattle.std.proofs.lemmas.List.{with_items_is}
@@ -15,20 +15,25 @@ invariant_of-result c =
     let u = c.in-Some.used in
     let last = c.wind.new.index in
     let sized = c.if-not-is_sized.ensures.0 refl in
-    let long : length last ≡ p = c.wind.auto.index ∙ c.as_mut_slice.ensures.len ∙ c.in-Ok.ensures.made.1 in
-    let same = with_items_is c.in-Ok.index last (long ∙ sym c.in-Ok.ensures.made.1) in
+    let long : length last ≡ p = c.wind.auto.index ∙ c.as_mut_slice.ensures.len ∙ c.in-Ok.ensures.len in
+    let same = with_items_is c.in-Ok.index last (long ∙ sym c.in-Ok.ensures.len) in
     let found = subst (λ ys. WoundUp ys last p u) c.as_slice.ensures.value c.in-Some.ensures in
     let all = subst (λ ys. WoundUp xs ys p u × (length ys ≡ p)) (sym same) (found, long) in
-    let wound = all.0 in (
-      sized.0,
-      (
-        sized.1,
-        (
-          sym c.args.memory.ok.0 ∙ sym c.len.ensures ∙ sized.2,
-          (wound.0, (wound.1.0, (wound.1.1, (wound.1.2, (wound.1.3, (all.1, (wound.2, (wound.3, (length_roll xs p, tt))))))))),
-        ),
-      ),
-    )
+    let wound = all.0 in
+    record {
+      some = sized.0;
+      few = sized.1;
+      sized = sym c.args.memory.ok.0 ∙ sym c.len.ensures ∙ sized.2;
+      judged = wound.0;
+      within = wound.1.0;
+      numbered = wound.1.1;
+      distinct = wound.1.2;
+      unused = wound.1.3;
+      long = all.1;
+      indexed = wound.2;
+      room = wound.3;
+      row = length_roll xs p;
+    }
 
 pub returns-in-Some : goal.returns-in-Some
 returns-in-Some c =

@@ -39,19 +39,18 @@ invariant_of-self c =
     let e = c.in_ok-reach.ensures in
     let h : i < p.count = within p.count i (length image) e in
     let w : length image ≡ 524 = whole_image p.count i (length image) e in
-    let k = filled p.memory c.fill_cell.new.memory c.as_mut_slice.result.now p.count i image p.sized h w c.as_mut_slice.ensures.value c.fill_cell.ensures in (
-      p.some,
-      (
-        p.few,
-        (
-          ap length k ∙ length_with_image xs i image (omega (arith, p.sized)) w ∙ p.sized,
-          (
-            rw k (still_marked xs (vec_items p.flaws) p.count i image p.sized h w p.marked),
-            (p.short, (p.sorted, (p.inside, (p.apart, (length_plate _ (vec_items p.flaws) p.count, tt))))),
-          ),
-        ),
-      ),
-    )
+    let k = filled p.memory c.fill_cell.new.memory c.as_mut_slice.result.now p.count i image p.sized h w c.as_mut_slice.ensures.value c.fill_cell.ensures in
+    record {
+      some = p.some;
+      few = p.few;
+      sized = ap length k ∙ length_with_image xs i image (omega (arith, p.sized)) w ∙ p.sized;
+      marked = rw k (still_marked xs (vec_items p.flaws) p.count i image p.sized h w p.marked);
+      short = p.short;
+      sorted = p.sorted;
+      inside = p.inside;
+      apart = p.apart;
+      row = length_plate _ (vec_items p.flaws) p.count;
+    }
 
 pub returns : goal.returns
 returns c =

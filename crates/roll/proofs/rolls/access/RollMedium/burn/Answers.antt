@@ -1,4 +1,4 @@
-use Rattle.std.proofs.Common.{◌≡◌, ℕ, ◌+◌, ◌*◌, ◌<◌, List, length, get_or, set, Ok, Err, vec_items, Vec, sym, refl, ap, ◌∙◌, subst, arith}
+use Rattle.std.proofs.Common.{◌≡◌, ℕ, ◌+◌, ◌*◌, List, length, get_or, Ok, Err, vec_items, Vec, sym, refl, ap, ◌∙◌, subst, arith}
 use Rattle.medium.proofs.Reached.{whole_image}
 use Rattle.medium.specs.Calls.{reaching}
 use Rattle.roll.proofs.Accessed.{Kept, burn_blank, burn_burnt, burn_refused, judged_then, kept, room_left, room_then, slots, stored}
@@ -62,19 +62,21 @@ invariant_of-self c =
     let e = c.in_ok-reach.ensures in
     let n = c.index.result.now in
     let k = still_kept m i image e n c.index.ensures c.if-index.false c.write_slot.new.memory c.as_mut_slice.result.now c.as_mut_slice.ensures.value (c.write_slot.ensures ∙ ap (λ at. with_slot c.as_mut_slice.result.now at i image) c.slot_at-at.ensures) in
-    let room = room_then m i image e n c.index.ensures c.if-index.false in (
-      m.some,
-      (
-        m.few,
-        (
-          k.0,
-          (
-            k.1,
-            (k.2.0, (k.2.1, (k.2.2, (k.2.3, (length-set (vec_items m.index) i m.used ∙ m.long, (k.3, (room, (length_roll _ m.count, tt)))))))),
-          ),
-        ),
-      ),
-    )
+    let room = room_then m i image e n c.index.ensures c.if-index.false in
+    record {
+      some = m.some;
+      few = m.few;
+      sized = k.0;
+      judged = k.1;
+      within = k.2.0;
+      numbered = k.2.1;
+      distinct = k.2.2;
+      unused = k.2.3;
+      long = length-set (vec_items m.index) i m.used ∙ m.long;
+      indexed = k.3;
+      room = room;
+      row = length_roll _ m.count;
+    }
 
 pub returns : goal.returns
 returns c =

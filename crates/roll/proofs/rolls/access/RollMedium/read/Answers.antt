@@ -1,4 +1,4 @@
-use Rattle.std.proofs.Common.{◌≡◌, ◌<◌, true, false, eqb, length, vec_items, sym, refl, ap, ◌∙◌, arith}
+use Rattle.std.proofs.Common.{true, false, eqb, length, sym, refl, ap, ◌∙◌, arith}
 use Rattle.roll.proofs.Accessed.{read_blank, read_burnt, slot_within}
 use Rattle.roll.specs.Slots.{slot_image, verdict_at}
 use Rattle.roll.proofs.rolls.access.RollMedium.read.Goals as goal
