@@ -35,22 +35,22 @@ pub trait Addressing {
 
 // The number of the sector at an address, if there is such an address.
 pub fn number_of<A: Addressing>(address: Address) -> Option<u32>
-    ensures answer { result ≡ number_at track_size start_track address }
-    ensures undone { UndoEachOther track_size start_track }
+    ensures answer { result ≡ number_at A.Addressing.track_size A.Addressing.start_track address }
+    ensures undone { UndoEachOther A.Addressing.track_size A.Addressing.start_track }
 {
     to_number::<A>(address)
 }
 
 // The address of a sector, if there is a sector of that number.
 pub fn address_of<A: Addressing>(number: u32) -> Option<Address>
-    ensures answer { result ≡ address_at track_size start_track number }
-    ensures undone { UndoEachOther track_size start_track }
+    ensures answer { result ≡ address_at A.Addressing.track_size A.Addressing.start_track number }
+    ensures undone { UndoEachOther A.Addressing.track_size A.Addressing.start_track }
 {
     to_address::<A>(number)
 }
 
 fn to_number<A: Addressing>(address: Address) -> Option<u32>
-    ensures { result ≡ number_at track_size start_track address }
+    ensures { result ≡ number_at A.Addressing.track_size A.Addressing.start_track address }
 {
     let first = A::lowest_track();
     let per = A::per_track();
@@ -67,7 +67,7 @@ fn to_number<A: Addressing>(address: Address) -> Option<u32>
 }
 
 fn to_address<A: Addressing>(number: u32) -> Option<Address>
-    ensures { result ≡ address_at track_size start_track number }
+    ensures { result ≡ address_at A.Addressing.track_size A.Addressing.start_track number }
 {
     let first = A::lowest_track();
     let per = A::per_track();
