@@ -22,6 +22,6 @@ pub returns : goal.returns
 returns c =
     let l = c.args.self.now.layout in
     let low = c.loop-group-test.false in
-    let high = c.loop-group.auto.group_end in
+    let high = c.loop-group.auto.group-end in
     let all : c.loop-group.group ≡ l.groups = omega arith in
     c.loop-group.invariant ∙ ap (λ k. vec_items c.args.areas.now ++ areas_of_groups l k) all
