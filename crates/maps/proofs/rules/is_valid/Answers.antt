@@ -1,6 +1,6 @@
 use Rattle.std.proofs.Common.{◌≡◌, Bool, true, false, ◌&&◌, leb, sym, refl, ap, ◌∙◌, arith}
 use Rattle.std.proofs.lemmas.Bool.{and_from, and_left, and_right, le-leb, lt-leb}
-use Rattle.maps.specs.Places.{bands_of, bands_stand, block_count, valid}
+use Rattle.maps.specs.Places.{bands_of, block_count, valid}
 use Rattle.maps.proofs.rules.is_valid.Goals as goal
 
 pub returns-then-count-gt-MOST_BANDS : goal.returns-then-count-gt-MOST_BANDS

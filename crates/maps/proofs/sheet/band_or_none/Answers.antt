@@ -1,6 +1,6 @@
 use Rattle.std.proofs.Common.{ltb, sym, ◌∙◌, arith}
 use Rattle.std.proofs.lemmas.Bool.{cond-true, cond-false, le-ltb, lt-ltb}
-use Rattle.maps.specs.Sheets.{band_at, band_count, band_or_none}
+use Rattle.maps.specs.Sheets.{band_count, band_or_none}
 use Rattle.maps.proofs.sheet.band_or_none.Goals as goal
 
 pub returns-then-k-from : goal.returns-then-k-from

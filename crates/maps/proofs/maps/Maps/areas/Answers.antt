@@ -5,8 +5,8 @@ use Rattle.maps.proofs.Tracks.{areas_listed}
 use Rattle.maps.specs.Areas.{all_areas, areas_before}
 use Rattle.maps.proofs.maps.Maps.areas.Goals as goal
 
-pub shared-ref-as-front·bands : goal.shared-ref-as-front·bands
-shared-ref-as-front·bands c = let m = c.args.self.now in (laid m.layout m.kept m.eight).few
+pub shared_ref_as_front-bands : goal.shared_ref_as_front-bands
+shared_ref_as_front-bands c = let m = c.args.self.now in (laid m.layout m.kept m.eight).few
 
 pub overflow_add-track-end : goal.overflow_add-track-end
 overflow_add-track-end c = let m = c.args.self.now in let s = (laid m.layout m.kept m.eight).small in omega arith
@@ -28,8 +28,8 @@ returns c =
     let list : vec_items c.loop-track.areas ≡ all_areas m.layout = c.loop-track.invariant ∙ ap (areas_before m.layout) same in
     record { list = list; areas = areas_listed m.layout m.kept m.eight m.formed (vec_items c.loop-track.areas) list }
 
-pub loop-track-preserved-in-default : goal.loop-track-preserved-in-default
-loop-track-preserved-in-default c = listed_none c.args.self.now.layout c.loop-track.track (sym c.in-default.is ∙ c.begun.ensures) _ c.loop-track.invariant
+pub loop-track-preserved-in_default : goal.loop-track-preserved-in_default
+loop-track-preserved-in_default c = listed_none c.args.self.now.layout c.loop-track.track (sym c.in_default.is ∙ c.begun.ensures) _ c.loop-track.invariant
 
 pub loop-track-preserved : goal.loop-track-preserved
 loop-track-preserved c =

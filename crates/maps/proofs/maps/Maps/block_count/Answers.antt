@@ -3,8 +3,8 @@ use Rattle.maps.proofs.Found.{blocks_few, homes_placed, laid}
 use Rattle.maps.specs.Places.{blocks}
 use Rattle.maps.proofs.maps.Maps.block_count.Goals as goal
 
-pub shared-ref-as-front·homes-in : goal.shared-ref-as-front·homes-in
-shared-ref-as-front·homes-in c = let m = c.args.self.now in (laid m.layout m.kept m.eight).few
+pub shared_ref_as_front-homes_in : goal.shared_ref_as_front-homes_in
+shared_ref_as_front-homes_in c = let m = c.args.self.now in (laid m.layout m.kept m.eight).few
 
 pub homes_in-requires : goal.homes_in-requires
 homes_in-requires c =

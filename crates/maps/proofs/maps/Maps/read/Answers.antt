@@ -25,7 +25,11 @@ invariant_of-result c =
     let d = c.args.sheet.now in
     let t = tested _ _ _ _ c.is_identified.ensures c.is_valid.ensures ∙ c.if-not-is_identified-is_valid.false in
     let laid = read_laid c.args.sectors d _ c.if-not-fits_format.ensures c.layout_in-layout.ensures in
-    ((and_parts (identified d) (valid c.layout_in-layout.result) t).1, (laid.1.1, (read_formed _ d _ c.layout_in-layout.ensures, tt)))
+    record {
+      kept = (and_parts (identified d) (valid c.layout_in-layout.result) t).1;
+      eight = laid.1.1;
+      formed = read_formed _ d _ c.layout_in-layout.ensures;
+    }
 
 pub returns : goal.returns
 returns c =
