@@ -1,5 +1,5 @@
 -- What mounting answers, in words: each sound spare is a valid link, or why it was refused.
-use Rattle.std.proofs.Common.{◌≡◌, ℕ, ◌+◌, ◌*◌, ◌<◌, Bool, true, false, cond, not, ◌&&◌, ◌⊎◌, List, [], ◌∷◌, ◌++◌, length, get_or, drop, Some, None, Ok, Err, Option, Result, sym, refl, ap, ◌∙◌, subst, ap₂, inl, inr, ⊎_elim, arith}
+use Rattle.std.proofs.Common.{◌≡◌, ℕ, ◌+◌, ◌*◌, ◌<◌, true, false, List, [], ◌∷◌, ◌++◌, length, get_or, drop, Some, None, Ok, Err, Option, Result, sym, refl, ap, ◌∙◌, subst, ap₂, inl, inr, ⊎_elim, arith}
 use mathlib.Core.List.{Memᴰ}
 use Rattle.format.specs.Blocks.{sound_at, spoiled_at}
 use Rattle.format.specs.Laws.{format_fault}
@@ -11,9 +11,9 @@ use Rattle.pointers.proofs.Members.{Climbing}
 use Rattle.pointers.proofs.Ruled.{fits_sized, sized}
 use Rattle.pointers.proofs.Spared.{below_next, climbing_all, listed_spare, may_from, may_only, spare_listed}
 use Rattle.pointers.specs.Places.{Spare}
-use Rattle.pointers.specs.Reading.{SheetRefused, SheetRules, sheet_read}
+use Rattle.pointers.specs.Reading.{SheetRules}
 use Rattle.pointers.specs.Rules.{Sized, fits_format, last_track}
-use Rattle.pointers.specs.Spares.{MayReplace, all_spares, may_replace}
+use Rattle.pointers.specs.Spares.{all_spares, may_replace}
 use Rattle.pointers.specs.declared.pointers.Pointers.{Pointers}
 use Rattle.pointers.specs.declared.layout.Layout.{Layout}
 use Rattle.pointers_format.specs.Kept.{there_again}
@@ -21,9 +21,9 @@ use Rattle.pointers_format.specs.Linked.{FirstFaulty, clear, first_faulty, link_
 use Rattle.pointers_format.specs.Mounted.{clean, err_ok, geometry_good, mounted, rules, sheet_bad, well_parts}
 use Rattle.pointers_format.proofs.Orders.{below_front}
 use Rattle.pointers_format.specs.Copies.{copies}
-use Rattle.pointers_format.specs.Linking.{LinkFaulty, LinkValid, faulty, faulty_among, has, links, named_by, points_well}
-use Rattle.pointers_format.specs.Mounting.{MountRefused, Mounted, RefusedBy11, checked, first_copy, geometry_of, links_checked, mounting, read_at, sheet_at, unless_faulty}
-use Rattle.pointers_format.specs.Pointing.{pointer_to, spare_tail, target}
+use Rattle.pointers_format.specs.Linking.{LinkFaulty, LinkValid, faulty, faulty_among, links, named_by, points_well}
+use Rattle.pointers_format.specs.Mounting.{MountRefused, Mounted, checked, first_copy, geometry_of, links_checked, mounting, read_at, sheet_at, unless_faulty}
+use Rattle.pointers_format.specs.Pointing.{spare_tail, target}
 use Rattle.pointers_format.specs.declared.format_a.FormatA.{FormatA}
 use Rattle.std.proofs.lemmas.Slice.Eq.{bytes_eq-Decides}
 use Rattle.std.proofs.lemmas.List.{get_or-drop}

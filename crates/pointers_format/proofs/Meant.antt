@@ -1,5 +1,5 @@
 -- From what the calls answer and leave to what that means.
-use Rattle.std.proofs.Common.{◌≡◌, ℕ, ◌<◌, true, false, eqb, List, length, Ok, Err, Result, sym, refl, ap, ◌∙◌, subst, ⊎_elim, MatchResult}
+use Rattle.std.proofs.Common.{◌≡◌, ℕ, ◌<◌, true, false, eqb, List, length, Ok, Err, Result, sym, ap, ◌∙◌, subst, ⊎_elim, MatchResult}
 use Rattle.format.specs.Blocks.{blank_at}
 use Rattle.format.specs.Laws.{on_its_medium, stored_on, storing}
 use Rattle.medium.specs.Sectors.{Sector}

@@ -1,5 +1,5 @@
 -- Storing, step by step: the home, and then the spares.
-use Rattle.std.proofs.Common.{◌≡◌, ℕ, ◌<◌, Bool, true, false, cond, not, ◌&&◌, ◌||◌, List, [], ◌∷◌, ◌++◌, length, sym, refl, ap, ◌∙◌, ap₂}
+use Rattle.std.proofs.Common.{◌≡◌, ℕ, ◌<◌, true, false, ◌||◌, List, ◌∷◌, length, sym, ap, ◌∙◌}
 use mathlib.Core.List.{Memᴰ}
 use Rattle.format.specs.Blocks.{blank_at}
 use Rattle.format.specs.Sectors.{free, some_free}

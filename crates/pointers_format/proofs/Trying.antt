@@ -1,5 +1,5 @@
 -- The loop that tries the spares of a block, turn by turn.
-use Rattle.std.proofs.Common.{◌≡◌, ℕ, ◌+◌, ◌<◌, ◌≤◌, Bool, true, false, cond, not, ◌&&◌, ◌||◌, eqb, ltb, List, [], ◌∷◌, ◌++◌, length, get_or, drop, sym, refl, ap, ◌∙◌, ap₂, ⊎_elim}
+use Rattle.std.proofs.Common.{◌≡◌, ℕ, ◌+◌, ◌<◌, ◌≤◌, Bool, true, false, cond, not, ◌&&◌, ◌||◌, List, [], ◌∷◌, ◌++◌, length, get_or, drop, sym, refl, ap, ◌∙◌, ap₂, ⊎_elim}
 use mathlib.Core.List.Memᴰ
 use mathlib.Core.List.{Memᴰ}
 use Rattle.format.proofs.Copying.{apart_at}
@@ -9,7 +9,6 @@ use Rattle.medium.proofs.Burns.{after_elsewhere, after_length}
 use Rattle.medium.specs.Calls.{reaches, sectors_after, with_burnt}
 use Rattle.medium.specs.Runs.{after_burns}
 use Rattle.medium.specs.Sectors.{Sector, is_blank, sector_at}
-use Rattle.medium.specs.declared.runs.Burn.{Burn}
 use Rattle.pointers_format.specs.Pointing.{spare_tail}
 use Rattle.pointers_format.specs.Storing.{spare_burn, spare_burns}
 use Rattle.std.proofs.lemmas.List.{at_drop_all, at_drop_more}

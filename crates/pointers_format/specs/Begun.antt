@@ -1,5 +1,5 @@
 -- What initialising leaves, and that it mounts.
-use Rattle.std.specs.Prelude.{◌≡◌, ℕ, ◌+◌, ◌-◌, ◌*◌, ◌<◌, ◌≤◌, Bool, true, false, cond, not, ◌&&◌, ◌||◌, ◌⊎◌, List, [], ◌∷◌, ◌++◌, length, take, replicate, Some, None, Ok, Err, Option, Result}
+use Rattle.std.specs.Prelude.{◌≡◌, ℕ, ◌+◌, ◌-◌, ◌*◌, ◌<◌, ◌≤◌, true, false, cond, List, [], ◌∷◌, length, take, replicate, Some, None, Ok, Err, Option, Result}
 use Rattle.std.proofs.Math.Path.{refl, sym, ap, ap₂, subst}
 use Rattle.std.proofs.Common.{◌∙◌, inl, inr, arith, length-append}
 use mathlib.Core.List.{Memᴰ}
@@ -7,9 +7,8 @@ use Rattle.std.proofs.Math.Logic.{⊎_elim}
 use Rattle.format.proofs.Copying.{lowest_means}
 use Rattle.format.specs.Blocks.{blank_at, image_of, sound_at}
 use Rattle.format.specs.Laws.{HomesBlank, format_fault}
-use Rattle.format.specs.Sectors.{AllBlank, Apart, burnt_with, copy_burns, first_sound, free, lowest_from, some_free}
-use Rattle.medium.proofs.Burns.{Distinct, FitsIn, burns_elsewhere, burns_here, burns_length}
-use Rattle.medium.specs.Blank.{LowestBurnt}
+use Rattle.format.specs.Sectors.{AllBlank, Apart, burnt_with, copy_burns, first_sound, lowest_from, some_free}
+use Rattle.medium.proofs.Burns.{Distinct, burns_elsewhere, burns_here, burns_length}
 use Rattle.medium.specs.Sectors.{Sector, is_blank, sector_at}
 use Rattle.medium.specs.declared.faults.Fault.{Fault}
 use Rattle.medium.specs.declared.faults.Refusal.TheVariants.{LayoutNotBurnt, NotBlank}
@@ -25,7 +24,7 @@ use Rattle.pointers.specs.Spares.{all_spares}
 use Rattle.pointers.specs.declared.pointers.Pointers.{Pointers}
 use Rattle.pointers_format.specs.Burning.{first_free, free_among}
 use Rattle.pointers_format.specs.Kept.{in_copies}
-use Rattle.pointers_format.specs.Linked.{none_faulty, some_none}
+use Rattle.pointers_format.specs.Linked.{none_faulty}
 use Rattle.pointers_format.specs.Mounted.{err_ok, first_in, is_sound, mounts, places, rules, sheet_bad, sheet_good}
 use Rattle.pointers_format.specs.Copies.{copies, copy_image}
 use Rattle.pointers_format.specs.Initialising.{CopiesBurnt, InitialiseRefused, Initialised, begun, begun_on, initialised, initialising, left_by, left_on, with_copies}

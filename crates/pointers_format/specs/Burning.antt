@@ -1,6 +1,6 @@
 -- Which spares are burnt for a block, and what the burns leave.
-use Rattle.std.specs.Prelude.{◌≡◌, ℕ, ◌+◌, Bool, true, false, cond, not, ◌&&◌, ◌||◌, ◌⊎◌, List, [], ◌∷◌, ◌++◌, length, refl}
-use Rattle.std.proofs.Common.{sym, ap, ap₂, subst, ◌∙◌, inl, inr, ⊎_elim, arith, length-append}
+use Rattle.std.specs.Prelude.{◌≡◌, ℕ, true, false, ◌||◌, List, [], ◌∷◌, ◌++◌, length, refl}
+use Rattle.std.proofs.Common.{sym, ap, subst, ◌∙◌, ⊎_elim, arith, length-append}
 use mathlib.Core.List.{Memᴰ}
 use Rattle.format.specs.Blocks.{blank_at}
 use Rattle.format.specs.Sectors.{Apart, free, some_free}
@@ -9,7 +9,7 @@ use Rattle.medium.specs.Sectors.{Sector, sector_at}
 use Rattle.medium.specs.declared.runs.Burn.{Burn}
 use Rattle.pointers_format.specs.Pointing.{home_tail, pointer_to_first, spare_tail}
 use Rattle.pointers_format.specs.Storing.{spare_burn, spare_burns}
-use Rattle.std.proofs.lemmas.Bool.{and_cases, and_from, and_left, and_parts, and_right, both_ways, cases_Bool, cond-false, cond-true, not-false, not_from_false, not_from_true, not-true, or_cases, or_left, or_parts, or_right}
+use Rattle.std.proofs.lemmas.Bool.{and_from, and_left, and_parts, and_right, both_ways, cases_Bool, cond-false, cond-true, not_from_false, not_from_true, or_left, or_right}
 
 pub image_length : (bytes tail : List ℕ) → length bytes ≡ 512 → length tail ≡ 12 → length (bytes ++ tail) ≡ 524
 image_length bytes tail e f = omega (arith, length-append bytes tail)

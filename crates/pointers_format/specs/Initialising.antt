@@ -11,7 +11,6 @@ use Rattle.medium.specs.declared.faults.Refusal.TheVariants.{LayoutNotBurnt, Not
 use Rattle.pointers.specs.Reading.{SheetRead, SheetRefused, sheet_read}
 use Rattle.pointers.specs.Rules.{last_track}
 use Rattle.pointers.specs.declared.pointers.Pointers.{Pointers}
-use Rattle.pointers.specs.declared.layout.Layout.{Layout}
 use Rattle.pointers_format.specs.Copies.{copies, copy_image}
 use Rattle.pointers_format.specs.declared.format_a.FormatA.{FormatA}
 

@@ -4,26 +4,24 @@ use Rattle.std.proofs.Math.Path.{refl, sym, ap, ap₂}
 use Rattle.std.proofs.Common.{subst, ◌∙◌, inl, inr, arith}
 use mathlib.Core.List.{Memᴰ}
 use Rattle.std.proofs.Math.Logic.{⊎_elim}
-use Rattle.format.specs.Blocks.{blank_at, block_in, image_of, held, lost, resting, sound_at, spare_of, spoiled_at, standing, standing_by}
+use Rattle.format.specs.Blocks.{blank_at, block_in, image_of, lost, resting, sound_at, spare_of, spoiled_at, standing, standing_by}
 use Rattle.format.specs.Laws.{StoringResult}
-use Rattle.format.specs.Sectors.{burnt_with, free, image_at, some_free}
+use Rattle.format.specs.Sectors.{free, image_at, some_free}
 use Rattle.medium.specs.Sectors.{Sector, burnt, is_blank, sector_at}
-use Rattle.pointers.proofs.Members.{split_in}
-use Rattle.pointers.proofs.Ruled.{size_held}
 use Rattle.pointers.proofs.Spared.{all_apart, block_listed, listed_spare, may_from}
 use Rattle.pointers.specs.Places.{blocks, home, primaries, secondaries}
 use Rattle.pointers.specs.Rules.{last_track}
 use Rattle.pointers.specs.Spares.{TriedBefore, all_spares, may_replace, spares_of}
 use Rattle.pointers.specs.declared.layout.Layout.{Layout}
 use Rattle.pointers_format.specs.Burning.{first_free, free_among}
-use Rattle.pointers_format.specs.Linked.{Once, clear, found, found_in, found_step, named_once, none_faulty, not_found}
-use Rattle.pointers_format.specs.Mounted.{clean, geometry_same, is_sound, is_spoiled, mounted, mounts, names_spoiled, places, rules, size, sound_same, spare_inside, well, well_parts}
-use Rattle.pointers_format.specs.Stored.{each_sector, inside, left_place, no_home, place_left, stored_sectors, to_words}
+use Rattle.pointers_format.specs.Linked.{Once, found, found_in, found_step, named_once, none_faulty, not_found}
+use Rattle.pointers_format.specs.Mounted.{clean, geometry_same, is_sound, is_spoiled, mounted, mounts, names_spoiled, places, rules, size, well}
+use Rattle.pointers_format.specs.Stored.{each_sector, stored_sectors, to_words}
 use Rattle.pointers_format.specs.Copies.{copies}
-use Rattle.pointers_format.specs.Linking.{faulty, faulty_among, has, links, links_among, named_by, names, points_well}
+use Rattle.pointers_format.specs.Linking.{faulty, has, links, links_among, named_by, names, points_well}
 use Rattle.pointers_format.specs.Mounting.{geometry_of, mounting}
-use Rattle.pointers_format.specs.Pointing.{home_tail, pointer_to, spare_tail, target}
-use Rattle.pointers_format.specs.Storing.{Place, SpareBurnt, StoredSectors, left, stored}
+use Rattle.pointers_format.specs.Pointing.{home_tail, spare_tail, target}
+use Rattle.pointers_format.specs.Storing.{SpareBurnt, StoredSectors, left, stored}
 use Rattle.pointers_format.specs.declared.format_a.FormatA.{FormatA}
 use Rattle.std.proofs.lemmas.List.{drop_at, get_or-append_right, take_at}
 use Rattle.std.proofs.lemmas.Bool.{and_from, and_left, and_parts, and_right, both_ways, cases_Bool, cases_eq, cases_lt, cond-false, cond-true, eq-eqb, ne_eqb, not_from_false, not_from_true, not-true, or_left, or_parts}

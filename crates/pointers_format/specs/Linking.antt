@@ -1,5 +1,5 @@
 -- Which spares stand for which homes.
-use Rattle.std.specs.Prelude.{◌≡◌, ℕ, ◌<◌, Bool, true, false, cond, not, ◌&&◌, ◌||◌, List, [], ◌∷◌, ◌++◌, drop, set, Some, None, Option, ◌==◌, ◌≢◌, slice_set}
+use Rattle.std.specs.Prelude.{◌≡◌, ℕ, ◌<◌, Bool, true, false, cond, not, ◌&&◌, ◌||◌, List, [], ◌∷◌, drop, Some, None, Option, ◌==◌, ◌≢◌, slice_set}
 use Rattle.format.specs.Blocks.{Link, sound_at, spoiled_at}
 use Rattle.format.specs.Sectors.{image_at}
 use Rattle.medium.specs.Sectors.{Sector}

@@ -1,7 +1,7 @@
 -- What it says that a medium mounts.
-use Rattle.std.specs.Prelude.{◌≡◌, ℕ, ◌+◌, ◌-◌, ◌*◌, ◌<◌, ◌≤◌, Bool, true, false, cond, not, ◌&&◌, ◌⊎◌, List, [], ◌∷◌, length, take, drop, Some, None, Ok, Err, Option, Result, MatchResult, refl}
+use Rattle.std.specs.Prelude.{◌≡◌, ℕ, ◌-◌, ◌*◌, ◌<◌, ◌≤◌, Bool, true, false, cond, not, ◌&&◌, List, [], ◌∷◌, length, take, drop, Some, None, Ok, Err, Option, Result, MatchResult, refl}
 use Rattle.std.proofs.Math.Path.{sym, ap, subst}
-use Rattle.std.proofs.Common.{ap₂, ◌∙◌, inl, inr, ⊎_elim, arith}
+use Rattle.std.proofs.Common.{ap₂, ◌∙◌, ⊎_elim, arith}
 use mathlib.Core.List.{Memᴰ}
 use Rattle.format.specs.Blocks.{Link, image_of, sound_at, spoiled_at}
 use Rattle.format.specs.Laws.{LinksSound, format_fault}

@@ -1,7 +1,7 @@
 -- What mounting answers.
 use Rattle.std.specs.Prelude.{◌≡◌, ℕ, ◌<◌, true, cond, ◌⊎◌, List, length, take, Some, None, Ok, Err, Option, Result, ◌≢◌}
 use mathlib.Core.List.{Memᴰ}
-use Rattle.format.specs.Blocks.{Link, sound_at}
+use Rattle.format.specs.Blocks.{sound_at}
 use Rattle.format.specs.Laws.{format_fault}
 use Rattle.format.specs.Sectors.{first_sound, image_at}
 use Rattle.medium.specs.Sectors.{Sector}

@@ -1,12 +1,12 @@
 -- What storing a block leaves, sector by sector, and when it finds a place.
-use Rattle.std.specs.Prelude.{◌≡◌, ℕ, ◌<◌, Bool, true, false, cond, not, ◌&&◌, ◌||◌, ◌⊎◌, List, [], ◌∷◌, ◌++◌, length, ◌≢◌, refl}
-use Rattle.std.proofs.Common.{sym, ap₂, subst, ◌∙◌}
+use Rattle.std.specs.Prelude.{◌≡◌, ℕ, ◌<◌, true, cond, not, ◌⊎◌, List, [], ◌∷◌, length, ◌≢◌, refl}
+use Rattle.std.proofs.Common.{sym, subst, ◌∙◌}
 use Rattle.std.proofs.Math.Path.{ap}
 use mathlib.Core.List.Memᴰ
 use mathlib.Core.List.{Memᴰ}
 use Rattle.std.proofs.Math.Logic.{inl, inr, ⊎_elim}
 use Rattle.format.specs.Blocks.{blank_at}
-use Rattle.format.specs.Sectors.{burnt_with, free, some_free}
+use Rattle.format.specs.Sectors.{free, some_free}
 use Rattle.medium.proofs.Burns.{Distinct, FitsIn, burns_elsewhere, burns_here, burns_length}
 use Rattle.medium.specs.Sectors.{Sector, sector_at}
 use Rattle.medium.specs.declared.runs.Burn.{Burn}
@@ -21,7 +21,7 @@ use Rattle.pointers_format.specs.Burning.{BurntAmong, burn_in, burns_distinct, f
 use Rattle.pointers_format.specs.Mounted.{home_inside, places, rules, spare_inside}
 use Rattle.pointers_format.specs.Pointing.{home_tail, spare_tail}
 use Rattle.pointers_format.specs.Storing.{Place, SpareBurnt, StoredSectors, home_burn, left, spare_burn, spare_burns, stored, storing_burns}
-use Rattle.std.proofs.lemmas.Bool.{and_from, and_parts, both_ways, cases_Bool, cases_eq, cond-false, cond-true, not_from_false, not-true, or_cases, or_left, or_right}
+use Rattle.std.proofs.lemmas.Bool.{and_from, and_parts, cases_Bool, cases_eq, cond-false, cond-true, not_from_false, not-true, or_cases, or_left, or_right}
 
 -- whether a sector is among those of some burns
 asked : (bs : List Burn) (i : ℕ) → ((c : Burn) × Memᴰ c bs × (c.sector ≡ i)) ⊎ ((c : Burn) → Memᴰ c bs → i ≢ c.sector)

@@ -1,5 +1,5 @@
 use mathlib.Core.List.{Memᴰ}
-use Rattle.std.proofs.Common.{◌≡◌, length, take, Some, None, Err, sym, refl, ap, ◌∙◌, subst, ap₂, arith}
+use Rattle.std.proofs.Common.{◌≡◌, take, Some, None, Err, sym, refl, ap, ◌∙◌, subst, ap₂, arith}
 use Rattle.format.specs.Sectors.{first_sound}
 use Rattle.pointers.proofs.Ruled.{sized}
 use Rattle.pointers.specs.Reading.{sheet_read}

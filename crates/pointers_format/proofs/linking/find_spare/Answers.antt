@@ -1,4 +1,4 @@
-use Rattle.std.proofs.Common.{◌≡◌, ◌<◌, true, false, length, get_or, Some, Ok, sym, refl, ap, ◌∙◌, subst, arith}
+use Rattle.std.proofs.Common.{◌≡◌, ◌<◌, true, false, length, Some, Ok, sym, refl, ap, ◌∙◌, arith}
 use Rattle.format.proofs.Copying.{mem_at}
 use Rattle.pointers.specs.Spares.{all_spares}
 use Rattle.pointers_format.proofs.Checking.{search_done, search_found, search_next}

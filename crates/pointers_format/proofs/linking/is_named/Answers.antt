@@ -1,4 +1,4 @@
-use Rattle.std.proofs.Common.{◌≡◌, true, false, ◌&&◌, eqb, Ok, sym, ap, ◌∙◌, ap₂}
+use Rattle.std.proofs.Common.{◌≡◌, true, false, ◌&&◌, eqb, Ok, sym, ap, ◌∙◌}
 use Rattle.format.specs.Blocks.{sound_at}
 use Rattle.pointers_format.proofs.Checking.{named_is}
 use Rattle.pointers_format.specs.Linking.{named_by, names}

@@ -1,4 +1,4 @@
-use Rattle.std.proofs.Common.{true, false, ◌&&◌, drop, Ok, sym, ap, ◌∙◌, ap₂, arith}
+use Rattle.std.proofs.Common.{◌&&◌, drop, Ok, sym, ap, ◌∙◌, ap₂, arith}
 use Rattle.format.specs.Blocks.{spoiled_at}
 use Rattle.pointers_format.proofs.Checking.{may_inside, well_by}
 use Rattle.pointers_format.specs.Mounted.{few_sectors, spare_inside}

@@ -1,6 +1,5 @@
-use Rattle.std.proofs.Common.{◌≡◌, ℕ, ◌+◌, ◌<◌, List, [], ◌∷◌, length, get_or, sym, refl, ap, ◌∙◌, subst, arith}
+use Rattle.std.proofs.Common.{◌≡◌, ℕ, ◌<◌, List, [], ◌∷◌, length, get_or, refl, ap, ◌∙◌, arith}
 use Rattle.format.proofs.Copying.{mem_at}
-use Rattle.pointers.proofs.Ruled.{size_held}
 use Rattle.pointers.proofs.Spared.{block_listed, length_spares_of}
 use Rattle.pointers.specs.Rules.{last_track}
 use Rattle.pointers.specs.Spares.{spares_of}

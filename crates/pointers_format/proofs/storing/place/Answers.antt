@@ -1,6 +1,6 @@
-use Rattle.std.proofs.Common.{◌≡◌, ℕ, ◌<◌, Bool, true, false, cond, not, ◌||◌, List, [], ◌∷◌, ◌++◌, length, Ok, sym, refl, ap, ◌∙◌, subst, ap₂, arith}
+use Rattle.std.proofs.Common.{◌≡◌, ℕ, ◌<◌, true, false, not, List, ◌++◌, length, Ok, sym, ap, ◌∙◌, subst, ap₂}
 use Rattle.format.specs.Blocks.{blank_at}
-use Rattle.medium.proofs.Burns.{after_elsewhere, after_length}
+use Rattle.medium.proofs.Burns.{after_length}
 use Rattle.medium.specs.Calls.{sectors_after}
 use Rattle.format.specs.Sectors.{some_free}
 use Rattle.medium.specs.Runs.{after_burns}

@@ -1,9 +1,8 @@
-use Rattle.std.proofs.Common.{◌≡◌, ℕ, ◌+◌, ◌<◌, true, false, List, ◌++◌, length, get_or, Ok, sym, ap, ◌∙◌, subst, ap₂, arith}
+use Rattle.std.proofs.Common.{◌≡◌, ◌<◌, true, false, ◌++◌, length, get_or, Ok, sym, ap, ◌∙◌, ap₂, arith}
 use Rattle.format.proofs.Copying.{mem_at}
 use Rattle.format.specs.Sectors.{free}
 use Rattle.medium.specs.Calls.{sectors_after}
 use Rattle.pointers.proofs.Spared.{length_spares_of, spares_apart}
-use Rattle.pointers.specs.Places.{home}
 use Rattle.pointers.specs.Rules.{last_track}
 use Rattle.pointers.specs.Spares.{spares_of}
 use Rattle.pointers_format.specs.Mounted.{few_sectors, home_inside, rules}

@@ -1,8 +1,6 @@
-use Rattle.std.proofs.Common.{◌≡◌, true, false, cond, Some, None, Ok, Err, sym, ap, ◌∙◌}
+use Rattle.std.proofs.Common.{◌≡◌, true, false, Err, sym, ap, ◌∙◌}
 use Rattle.format.proofs.Copying.{lowest_is}
-use Rattle.format.specs.Laws.{format_fault}
-use Rattle.format.specs.Sectors.{lowest_from, some_free}
-use Rattle.medium.specs.declared.faults.Refusal.TheVariants.{NotBlank}
+use Rattle.format.specs.Sectors.{some_free}
 use Rattle.pointers_format.specs.Begun.{begun_blank, begun_burnt, begun_refused}
 use Rattle.pointers_format.proofs.Meant.{initialise_means}
 use Rattle.pointers_format.specs.Mounted.{sheet_good}
@@ -37,7 +35,7 @@ burn_sheet-requires g c =
     let s = g.M.Medium.sectors c.args.medium.now in
     let d = c.args.sheet.now in
     let laid = ap (λ n. sheet_read n d) (sym c.count.ensures) ∙ sym c.read.ensures.answer ∙ c.in_ok-geometry.was in
-    record { sized = sym (sheet_good _ d _ laid).size; blank = lowest_is s _ c.in_ok-sector.ensures ∙ c.in-default.is }
+    record { sized = sym (sheet_good _ d _ laid).size; blank = lowest_is s _ c.in_ok-sector.ensures ∙ c.in_default.is }
 
 pub returns-then-not-branch : goal.returns-then-not-branch
 returns-then-not-branch g c =
@@ -45,7 +43,7 @@ returns-then-not-branch g c =
     let d = c.args.sheet.now in
     let f = c.in_ok-geometry.geometry in
     let laid = ap (λ n. sheet_read n d) (sym c.count.ensures) ∙ sym c.read.ensures.answer ∙ c.in_ok-geometry.was in
-    let low = lowest_is s _ c.in_ok-sector.ensures ∙ c.in-default.is in
+    let low = lowest_is s _ c.in_ok-sector.ensures ∙ c.in_default.is in
     let r = begun_blank s d f laid low in
     let was = c.in_ok-burn_sheet.was in
     let answer = c.burn_sheet.ensures.answer in
@@ -60,7 +58,7 @@ returns g c =
     let d = c.args.sheet.now in
     let f = c.in_ok-geometry.geometry in
     let laid = ap (λ n. sheet_read n d) (sym c.count.ensures) ∙ sym c.read.ensures.answer ∙ c.in_ok-geometry.was in
-    let low = lowest_is s _ c.in_ok-sector.ensures ∙ c.in-default.is in
+    let low = lowest_is s _ c.in_ok-sector.ensures ∙ c.in_default.is in
     let r = begun_blank s d f laid low in
     let was = c.in_ok-burn_sheet.was in
     let answer = c.burn_sheet.ensures.answer in

@@ -1,7 +1,6 @@
-use Rattle.std.proofs.Common.{◌≡◌, Err, sym, ap, ◌∙◌}
+use Rattle.std.proofs.Common.{Err, sym, ap, ◌∙◌}
 use Rattle.pointers_format.proofs.Meant.{mount_means}
 use Rattle.pointers_format.specs.Mounted.{geometry_good}
-use Rattle.pointers_format.specs.Linking.{faulty}
 use Rattle.pointers_format.specs.Mounting.{checked, mounting, unless_faulty}
 use Rattle.std.proofs.lemmas.Result.{err_from_is_err_and}
 use Rattle.pointers_format.proofs.format_a.FormatA.mount.Goals as goal
