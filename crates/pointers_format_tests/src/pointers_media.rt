@@ -51,7 +51,9 @@ fn initialised(heap: Global, flaws: &[Flaw]) -> Result<Option<Plate>, AllocError
 #[test]
 fn initialising(rt: HostRuntime) -> Result<(), Fail> {
     let heap = rt.alloc();
-    let mut used = initialised(heap, &[])?.unwrap();
+    let Some(mut used) = initialised(heap, &[])? else {
+        return Err(Fail::new("the plate was not initialised"));
+    };
     assert_eq!(rt;
         told(FormatA::initialise(&mut used, &example())),
         (9, 0),
