@@ -1,10 +1,9 @@
 -- A burn changes a blank sector that it reaches, and nothing else; so a whole run of burns writes once.
-use Rattle.std.proofs.Common.{◌≡◌, ℕ, zero, suc, ◌<◌, Bool, true, false, cond, eqb, ltb, ◌⊎◌, List, [], ◌∷◌, length, get_or, Ok, Err, Result, sym, refl, ap, ◌∙◌, inl, inr, ⊎_elim, arith}
+use Rattle.std.proofs.Common.{◌≡◌, ℕ, zero, suc, ◌<◌, Bool, true, false, cond, eqb, ltb, ◌⊎◌, List, [], ◌∷◌, length, Ok, Err, sym, refl, ap, ◌∙◌, inl, inr, ⊎_elim, arith}
 use Rattle.std.proofs.lemmas.List.{length-set, get_or-set_same, get_or-set_other}
 use Rattle.std.proofs.lemmas.Bool.{and_parts, cases_Bool, cases_eq, cond-true, cond-false, ltb-true}
-use Rattle.medium.specs.Calls.{burning, reaches, sectors_after, unreached, verdict, with_burnt}
-use Rattle.medium.specs.Faults.{medium_fault}
-use Rattle.medium.specs.Runs.{Accepted, WrittenOnce, after_burns, answer_at, burn_answers, burn_at, no_answer}
+use Rattle.medium.specs.Calls.{burning, reaches, sectors_after, verdict, with_burnt}
+use Rattle.medium.specs.Runs.{Accepted, WrittenOnce, after_burns, answer_at, burn_answers, burn_at}
 use Rattle.medium.specs.Sectors.{Sector, State, beyond, blank, burnt, is_blank, sector_at}
 use Rattle.medium.specs.declared.faults.Fault.{Fault}
 use Rattle.medium.specs.declared.interface.Verdict.{Verdict}

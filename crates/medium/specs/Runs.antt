@@ -1,8 +1,8 @@
 -- What a whole run of burns answers and leaves, whatever is asked for.
-use Rattle.std.specs.Prelude.{◌≡◌, ℕ, ◌<◌, Bool, true, false, List, [], ◌∷◌, length, Ok, Err, Result, ◌≢◌, slice_index_or}
+use Rattle.std.specs.Prelude.{◌≡◌, ℕ, ◌<◌, List, [], ◌∷◌, length, Ok, Err, Result, ◌≢◌, slice_index_or}
 use Rattle.medium.specs.Calls.{burning, sectors_after, verdict}
 use Rattle.medium.specs.Faults.{medium_fault}
-use Rattle.medium.specs.Sectors.{Sector, State, blank, burnt, sector_at}
+use Rattle.medium.specs.Sectors.{Sector, blank, burnt, sector_at}
 use Rattle.medium.specs.declared.faults.Fault.{Fault}
 use Rattle.medium.specs.declared.faults.Refusal.TheVariants.{NoSuchSector}
 use Rattle.medium.specs.declared.interface.Verdict.{Verdict}

@@ -1,5 +1,5 @@
 -- What a write-once medium is: a row of sectors, each sound or weak for good, each blank or burnt.
-use Rattle.std.specs.Prelude.{◌≡◌, ℕ, ◌<◌, ◌≤◌, Bool, true, false, List, length, slice_index_or}
+use Rattle.std.specs.Prelude.{◌≡◌, ℕ, ◌≤◌, Bool, true, false, List, length, slice_index_or}
 
 -- what was done to a sector: nothing yet, or it was burnt with these bytes
 pub data State : Type 0 where

@@ -1,5 +1,5 @@
 -- The spares of a block in the order in which they are tried, and all spares of a layout in rising order.
-use Rattle.std.specs.Prelude.{◌≡◌, ℕ, zero, suc, ◌+◌, ◌-◌, ◌*◌, ◌/◌, ◌%◌, ◌<◌, Bool, true, cond, ◌&&◌, ◌||◌, ◌⊎◌, List, [], ◌++◌, length, ◌==◌, nat_le, nat_lt}
+use Rattle.std.specs.Prelude.{◌≡◌, ℕ, zero, suc, ◌+◌, ◌-◌, ◌*◌, ◌/◌, ◌%◌, ◌<◌, Bool, cond, ◌&&◌, ◌||◌, ◌⊎◌, List, [], ◌++◌, ◌==◌, nat_le, nat_lt}
 use mathlib.Core.List.{Memᴰ}
 use Rattle.medium.specs.Order.{Rising}
 use Rattle.pointers.specs.Places.{Spare, blocks, data_start, home, primaries, secondaries, width}
