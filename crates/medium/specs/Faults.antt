@@ -1,5 +1,5 @@
 -- The number by which each refusal is known, and the name of each layer.
-use Rattle.std.specs.Prelude.{ℕ, List, codes}
+use Rattle.std.specs.Prelude.{ℕ, List, ◌++◌, codes, decimal}
 use Rattle.medium.specs.declared.faults.Fault.{Fault}
 use Rattle.medium.specs.declared.faults.Layer.{Layer}
 use Rattle.medium.specs.declared.faults.Layer.TheVariants.{Medium, Format, Volume}
@@ -29,6 +29,14 @@ layer_name Medium = codes "medium"
 layer_name Format = codes "format"
 layer_name Volume = codes "volume"
 
--- a refusal that the medium finds
+-- a refusal that the layer finds
+abbrev pub fault_of : Layer → Refusal → ℕ → Fault
+fault_of layer why place = record { refusal = why; layer = layer; place = place }
+
 abbrev pub medium_fault : Refusal → ℕ → Fault
-medium_fault why place = record { refusal = why; layer = Medium; place = place }
+medium_fault = fault_of Medium
+
+-- a fault as a person reads it
+abbrev pub fault_in_words : Fault → List ℕ
+fault_in_words f =
+    codes "refusal " ++ (decimal (number_of f.refusal) ++ (codes " of the " ++ (layer_name f.layer ++ (codes " at " ++ decimal f.place))))

@@ -1,4 +1,5 @@
 pub mod Sectors
+pub mod Bytes
 pub mod Faults
 pub mod Calls
 pub mod Blank

@@ -1,6 +1,8 @@
 // Why a call was refused: which refusal it is, which layer found it, and at what place.
-ghost use Rattle.std.specs.Prelude.{◌≡◌};
-ghost use Rattle.medium.specs.Faults.{layer_name, medium_fault, number_of};
+ghost use Rattle.std.specs.Prelude.{◌≡◌, Some};
+ghost use Rattle.medium.specs.Faults.{fault_in_words, fault_of, layer_name, number_of};
+
+use std::fmt;
 
 // The layer that found a fault; it is passed up whole by the layers above.
 #[derive(Clone, Copy, PartialEq, Eq, Debug)]
@@ -19,6 +21,25 @@ impl Layer {
             Layer::Format => "format",
             Layer::Volume => "volume",
         }
+    }
+
+    // A refusal that this layer found.
+    pub fn refuses(self, refusal: Refusal, place: u32) -> Fault
+        ensures { result ≡ fault_of self refusal place }
+    {
+        Fault {
+            refusal,
+            layer: self,
+            place,
+        }
+    }
+}
+
+impl fmt::Display for Layer {
+    ghost output = { λ layer. Some (layer_name layer) };
+
+    fn fmt<W: fmt::Write>(&self, f: &mut fmt::Formatter<W>) -> fmt::Result {
+        f.write_str(self.name())
     }
 }
 
@@ -43,12 +64,12 @@ pub enum Refusal {
     BlockLost = 16,
 }
 
-impl Refusal {
-    // The number by which people and other programs know the refusal.
-    pub fn number(self) -> u8
-        ensures { result ≡ number_of self }
-    {
-        self as u8
+// The number by which people and other programs know the refusal.
+impl From<Refusal> for u8 {
+    ghost from_gives = { λ refusal number. number ≡ number_of refusal };
+
+    fn from(refusal: Refusal) -> u8 {
+        refusal as u8
     }
 }
 
@@ -60,14 +81,13 @@ pub struct Fault {
     pub place: u32,
 }
 
-impl Fault {
-    pub fn in_medium(refusal: Refusal, place: u32) -> Fault
-        ensures { result ≡ medium_fault refusal place }
-    {
-        Fault {
-            refusal,
-            layer: Layer::Medium,
-            place,
-        }
+impl fmt::Display for Fault {
+    ghost output = { λ fault. Some (fault_in_words fault) };
+
+    fn fmt<W: fmt::Write>(&self, f: &mut fmt::Formatter<W>) -> fmt::Result {
+        let number = u8::from(self.refusal);
+        let layer = self.layer;
+        let place = self.place;
+        write!(f, "refusal {number} of the {layer} at {place}")
     }
 }

@@ -3,10 +3,12 @@ ghost use Rattle.std.specs.Prelude.{◌≡◌, List, length, Err};
 ghost use Rattle.medium.specs.Calls.{burning, image_after, reaching, reading, sectors_after, verdict};
 ghost use Rattle.medium.specs.Sectors.{Lawful, Sector};
 
-use crate::faults::{Fault, Refusal};
+use crate::faults::{Fault, Layer, Refusal};
 
 // The bytes of one sector.
 pub const IMAGE_BYTES: usize = 524;
+
+pub type Image = [u8; IMAGE_BYTES];
 
 // No medium has more sectors.
 pub const MOST_SECTORS: u32 = 640_064;
@@ -27,6 +29,7 @@ pub enum Verdict {
 }
 
 impl Verdict {
+    // No `From<bool>`: `Verdict::from(true)` would not say which of the two it means.
     pub fn of(weak: bool) -> Verdict
         ensures { result ≡ verdict weak }
     {
@@ -60,10 +63,10 @@ pub fn reach(count: u32, sector: u32, image_len: usize) -> Result<(), Fault>
     ensures { result ≡ reaching count sector image_len }
 {
     if image_len != IMAGE_BYTES {
-        return Err(Fault::in_medium(Refusal::WrongLength, 0));
+        return Err(Layer::Medium.refuses(Refusal::WrongLength, 0));
     }
     if sector >= count {
-        return Err(Fault::in_medium(Refusal::NoSuchSector, sector));
+        return Err(Layer::Medium.refuses(Refusal::NoSuchSector, sector));
     }
     Ok(())
 }

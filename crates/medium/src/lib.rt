@@ -3,13 +3,15 @@
 #![tactic(auto)]
 
 pub mod blank;
+pub mod bytes;
 pub mod faults;
 pub mod interface;
 pub mod order;
 pub mod runs;
 
 pub use blank::lowest_burnt;
+pub use bytes::{four_at, is_sized, two_at};
 pub use faults::{Fault, Layer, Refusal};
-pub use interface::{IMAGE_BYTES, MOST_SECTORS, Medium, Reading, Verdict, reach};
+pub use interface::{IMAGE_BYTES, Image, MOST_SECTORS, Medium, Reading, Verdict, reach};
 pub use order::{Keyed, rising};
 pub use runs::{Burn, burn_all};

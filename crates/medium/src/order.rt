@@ -1,5 +1,5 @@
 // Records in strictly rising order of their keys.
-ghost use Rattle.std.specs.Prelude.{◌≡◌, ℕ, ◌<◌, map, Decides};
+ghost use Rattle.std.specs.Prelude.{◌≡◌, ℕ, map, Decides, nat_lt};
 ghost use Rattle.medium.specs.Order.{Rising};
 
 // A record that is ordered by a number.
@@ -14,16 +14,11 @@ pub trait Keyed {
 pub fn rising<R: Keyed>(records: &[R]) -> bool
     ensures { Decides result (Rising (map R.Keyed.keyed records.now)) }
 {
-    for i in 1..records.len() {
-        if !is_below(&records[i - 1], &records[i]) {
-            return false;
-        }
-    }
-    true
+    records.is_sorted_by(is_below)
 }
 
 fn is_below<R: Keyed>(a: &R, b: &R) -> bool
-    ensures { Decides result (R.Keyed.keyed a.now < R.Keyed.keyed b.now) }
+    ensures { result ≡ nat_lt (R.Keyed.keyed a.now) (R.Keyed.keyed b.now) }
 {
     a.key() < b.key()
 }

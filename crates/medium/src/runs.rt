@@ -4,14 +4,14 @@ ghost use Rattle.medium.specs.Calls.{burning, sectors_after};
 ghost use Rattle.medium.specs.Runs.{BurntInOrder};
 
 use crate::faults::Fault;
-use crate::interface::{IMAGE_BYTES, Medium, Verdict};
+use crate::interface::{Image, Medium, Verdict};
 use std::alloc::{AllocError, Global};
 
 // A burn that is asked for: the sector, and the bytes that it is to hold.
 #[derive(Clone, Copy)]
 pub struct Burn {
     pub sector: u32,
-    pub image: [u8; IMAGE_BYTES],
+    pub image: Image,
 }
 
 // Asks for the burns in order, and notes what each of them answered.

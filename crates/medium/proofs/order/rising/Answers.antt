@@ -1,46 +1,27 @@
-use Rattle.std.proofs.Common.{◌≡◌, ℕ, ◌+◌, ◌-◌, ◌<◌, ◌≤◌, List, map, length, get_or, sym, refl, ap, ◌∙◌, ⊎_elim, arith}
+use Rattle.std.proofs.Common.{rules, of_calls, ◌≡◌, ℕ, ◌+◌, ◌<◌, Bool, true, false, List, [], ◌∷◌, map, length, nat_lt, sym, refl, ◌∙◌, Decides, arith}
+use Rattle.std.proofs.lemmas.Bool.{false≢true, lt-ltb, ltb-true}
+use Rattle.std.proofs.lemmas.Fn.{always_returns_same}
 use Rattle.std.proofs.lemmas.List.{get_or-map, length-map}
-use Rattle.std.proofs.lemmas.Bool.{cases_lt, false≢true}
+use Rattle.std.specs.List.{IsAllAdjacentAnswer}
+use Rattle.medium.specs.Order.{Rising}
 use Rattle.medium.proofs.order.rising.Goals as goal
 
-key_at : {X : Type 0} (f : X → ℕ) (xs : List X) (i : ℕ) (x : X) → i < length xs → x ≡ get_or xs i x → get_or (map f xs) i 0 ≡ f x
-key_at f xs i x h e = get_or-map f xs i x 0 h ∙ ap f (sym e)
-
-step : (xs : List ℕ) (i : ℕ) → 1 ≤ i → ((k : ℕ) → k + 1 < i → get_or xs k 0 < get_or xs (k + 1) 0) → get_or xs (i - 1) 0 < get_or xs i 0 → (k : ℕ) → k + 1 < i + 1 → get_or xs k 0 < get_or xs (k + 1) 0
-step xs i p below here k h =
-    ⊎_elim
-    (below k)
-    (λ m. omega (arith, ap (λ n. get_or xs n 0) (let e : k ≡ i - 1 = omega arith in e), ap (λ n. get_or xs n 0) (let e : k + 1 ≡ i = omega arith in e)))
-    (cases_lt (k + 1) i)
-
-pub loop-i-preserved : goal.loop-i-preserved
-loop-i-preserved g c =
-    let f = g.R.Keyed.keyed in
-    let xs = c.args.records.now in
-    let i = c.loop-i.i in
-    step (map f xs) i (omega arith) c.loop-i.invariant
-    (omega (arith, c.if-not-is_below.ensures.0 refl, key_at f xs (i - 1) _ (omega arith) c.index-records-i.is, key_at f xs i _ (omega arith) c.index-records-i-in-loop-i.is))
-
-pub returns-then-not-is_below : goal.returns-then-not-is_below
-returns-then-not-is_below g c =
-    let f = g.R.Keyed.keyed in
-    let xs = c.args.records.now in
-    let i = c.loop-i.i in
-    let same : i - 1 + 1 ≡ i = omega arith in (
-      (λ e. absurd (false≢true e)),
-      (λ all.
-          c.if-not-is_below.ensures.1
-          (omega (
-            arith,
-            all (i - 1) (omega (arith, length-map xs f)),
-            ap (λ n. get_or (map f xs) n 0) same,
-            key_at f xs (i - 1) _ (omega arith) c.index-records-i.is,
-            key_at f xs i _ (omega arith) c.index-records-i-in-loop-i.is,
-          ))),
-    )
+module _ {X : Type 0} (f : X → ℕ) where
+  answers : (xs : List X) (r : Bool) → IsAllAdjacentAnswer (λ x y b. b ≡ nat_lt (f x) (f y)) xs r → Decides r (Rising (map f xs))
+  answers [] true h = (λ e k l. absurd (omega arith), λ all. refl)
+  answers [] false h = absurd (omega (arith, h.1))
+  answers (x ∷ xs) true h = (
+    λ e k l.
+        let inside : k + 1 < length (x ∷ xs) = omega (arith, length-map (x ∷ xs) f) in
+        omega (arith, ltb-true _ _ (sym (h k x inside)), get_or-map f (x ∷ xs) k x 0 (omega arith), get_or-map f (x ∷ xs) (k + 1) x 0 inside),
+    λ all. refl,
+  )
+  answers (x ∷ xs) false h = (
+    λ e. absurd (false≢true e),
+    λ all. h.2 x ∙ lt-ltb _ _ (omega (arith, all h.0 (omega (arith, length-map (x ∷ xs) f, h.1)), get_or-map f (x ∷ xs) h.0 x 0 (omega (arith, h.1)), get_or-map f (x ∷ xs) (h.0 + 1) x 0 h.1)),
+  )
 
 pub returns : goal.returns
-returns g c = (
-  (λ e k h. c.loop-i.invariant k (omega (arith, length-map c.args.records.now g.R.Keyed.keyed))),
-  (λ all. refl),
-)
+returns g c =
+    let f = g.R.Keyed.keyed in
+    answers f _ _ (c.is_sorted_by.ensures.cases (λ x y. nat_lt (f x) (f y)) (always_returns_same _ _ _ (λ a r f' k. search (rules, of_calls))))
