@@ -1,15 +1,16 @@
 -- The loops over the copies of a layout, turn by turn.
-use Rattle.std.proofs.Common.{◌≡◌, ℕ, zero, suc, ◌+◌, ◌-◌, ◌<◌, ◌≤◌, Bool, true, false, cond, not, ◌&&◌, ◌||◌, List, [], ◌∷◌, length, get_or, drop, Some, None, Option, sym, refl, ap, ◌∙◌, subst, ⊎_elim, arith}
+use Rattle.std.proofs.Common.{◌≡◌, ℕ, zero, suc, ◌+◌, ◌-◌, ◌<◌, ◌≤◌, Bool, true, false, not, ◌&&◌, ◌||◌, List, [], ◌∷◌, length, get_or, drop, Some, None, Option, sym, refl, ap, ◌∙◌, subst, ⊎_elim, arith}
 use mathlib.Core.List.Memᴰ
 use mathlib.Core.List.{Memᴰ}
-use Rattle.format.specs.Blocks.{blank_at, sound_at}
-use Rattle.format.specs.Sectors.{Apart, copy_burns, first_sound, free, lowest_from, some_free}
+use Rattle.format.specs.Blocks.{blank_at}
+use Rattle.format.specs.Sectors.{Apart, copy_burns, free, lowest_from, some_free}
 use Rattle.medium.proofs.Burns.{after_elsewhere, after_length}
 use Rattle.medium.specs.Blank.{BlankBelow, LowestBurnt}
 use Rattle.medium.specs.Calls.{sectors_after}
 use Rattle.medium.specs.Runs.{after_burns}
 use Rattle.medium.specs.Sectors.{Sector, State, blank, burnt, is_blank, sector_at}
-use Rattle.std.proofs.lemmas.List.{at_drop_all, at_drop_more}
+use Rattle.std.proofs.lemmas.List.{at_drop_more}
+use Rattle.std.proofs.Math.Bool.{or_assoc}
 use Rattle.std.proofs.lemmas.Bool.{cases_Bool, cond-false, cond-true}
 
 pub mem_at : (xs : List ℕ) (i : ℕ) → i < length xs → Memᴰ (get_or xs i 0) xs
@@ -27,10 +28,6 @@ apart_drop (x ∷ xs) (suc i) a = apart_drop xs i a.1
 pub apart_at : (xs : List ℕ) (i : ℕ) → i < length xs → Apart xs → Memᴰ (get_or xs i 0) (drop (i + 1) xs) → ⊥
 apart_at xs i h a m = (subst Apart (at_drop_more (λ (ys : List ℕ). ys) xs i 0 h) (apart_drop xs i a)).0 m
 
-or_assoc : (a b c : Bool) → ((a || b) || c) ≡ (a || (b || c))
-or_assoc true b c = refl
-or_assoc false b c = refl
-
 -- before the turn at i the sectors s are left of s0, and what is left to burn comes to the whole
 pub record Copying (s0 s : List Sector) (image sectors : List ℕ) (i : ℕ) (any : Bool) : Type 0 where
   pub still : after_burns s (copy_burns image (drop i sectors)) ≡ after_burns s0 (copy_burns image sectors)
@@ -38,20 +35,7 @@ pub record Copying (s0 s : List Sector) (image sectors : List ℕ) (i : ℕ) (an
   pub same : (j : ℕ) → Memᴰ j (drop i sectors) → sector_at s j ≡ sector_at s0 j
   pub as_many : length s ≡ length s0
 
-pub copying_start : (s : List Sector) (image sectors : List ℕ) → Copying s s image sectors 0 false
-copying_start s image sectors = record { still = refl; found = refl; same = λ j m. refl; as_many = refl }
-
 module _ (s0 s : List Sector) (image sectors : List ℕ) (i : ℕ) (any : Bool) (k : Copying s0 s image sectors i any) where
-  pub copying_done : length sectors ≤ i → (s ≡ after_burns s0 (copy_burns image sectors)) × (any ≡ some_free s0 sectors)
-  copying_done h = (
-    sym (at_drop_all (λ xs. after_burns s (copy_burns image xs)) sectors i h) ∙ k.still,
-    sym (or_none any) ∙ sym (ap (λ t. any || t) (at_drop_all (some_free s0) sectors i h)) ∙ k.found,
-  )
-    where
-      or_none : (b : Bool) → (b || false) ≡ b
-      or_none true = refl
-      or_none false = refl
-
   module _ (more : i < length sectors) where
     abbrev pub here : ℕ
     here = get_or sectors i 0
@@ -68,20 +52,6 @@ module _ (s0 s : List Sector) (image sectors : List ℕ) (i : ℕ) (any : Bool) 
           same = λ j m. ap (λ u. sector_at u j) e ∙ after_elsewhere s here image j (λ z. apart_at sectors i more a (Memᴰ.cast (sym z) m)) ∙ k.same j (subst (λ xs. Memᴰ j xs) (sym (at_drop_more (λ (xs : List ℕ). xs) sectors i 0 more)) (Memᴰ.tail m));
           as_many = ap length e ∙ after_length s here image ∙ k.as_many;
         }
-
--- the search for a sound copy
-module _ (s : List Sector) (ps : List ℕ) (i : ℕ) (inv : first_sound s (drop i ps) ≡ first_sound s ps) where
-  first_split : i < length ps → cond (sound_at s (get_or ps i 0)) (Some (get_or ps i 0)) (first_sound s (drop (i + 1) ps)) ≡ first_sound s ps
-  first_split h = sym (at_drop_more (first_sound s) ps i 0 h) ∙ inv
-
-  pub first_over : i < length ps → sound_at s (get_or ps i 0) ≡ false → first_sound s (drop (i + 1) ps) ≡ first_sound s ps
-  first_over h n = sym (cond-false (sound_at s (get_or ps i 0)) _ _ n) ∙ first_split h
-
-  pub first_here : i < length ps → sound_at s (get_or ps i 0) ≡ true → Some (get_or ps i 0) ≡ first_sound s ps
-  first_here h y = sym (cond-true (sound_at s (get_or ps i 0)) _ _ y) ∙ first_split h
-
-  pub first_none : length ps ≤ i → None ≡ first_sound s ps
-  first_none h = sym (at_drop_all (first_sound s) ps i h) ∙ inv
 
 -- the lowest burnt sector is the one that is found from the front
 blank_so : (x : State) → x ≡ blank → is_blank x ≡ true

@@ -5,20 +5,14 @@ use Rattle.format.specs.Addresses.{UndoEachOther, address_at, last_index, number
 use Rattle.format.specs.declared.addressing.Address.{Address}
 use Rattle.std.proofs.lemmas.Nat.{div-mul-add, mod_below, mod-mul-add}
 use Rattle.std.proofs.lemmas.Int.{ints}
-use Rattle.std.proofs.lemmas.Bool.{le-leb, leb-true, lt-ltb, ltb-true}
-
-some_if : {X : Type 0} (b : Bool) (x y : X) → cond b (Some x) None ≡ Some y → (b ≡ true) × (x ≡ y)
-some_if true x y e = (refl, cc)
-some_if false x y e = let z : ◌≡◌ {A = ℕ} 0 1 = cc in absurd (omega arith)
+use Rattle.std.proofs.lemmas.Option.{cond_some}
+use Rattle.std.proofs.lemmas.Bool.{cond-true, le-leb, leb-true, lt-ltb, ltb-true}
 
 tests : (a b c : Bool) (m n : ℕ) → cond a None (cond b None (cond c (Some m) None)) ≡ Some n → (a ≡ false) × (b ≡ false) × (c ≡ true) × (m ≡ n)
 tests true b c m n e = let z : ◌≡◌ {A = ℕ} 0 1 = cc in absurd (omega arith)
 tests false true c m n e = let z : ◌≡◌ {A = ℕ} 0 1 = cc in absurd (omega arith)
 tests false false false m n e = let z : ◌≡◌ {A = ℕ} 0 1 = cc in absurd (omega arith)
 tests false false true m n e = (refl, refl, refl, cc)
-
-cond_some : {X : Type 0} (b : Bool) (x : X) → b ≡ true → cond b (Some x) None ≡ Some x
-cond_some b x e = ap (λ t. cond t (Some x) None) e
 
 module _ (per : ℕ) (first : ℤ) (some : 1 ≤ per) (low : negsuc 1 ≤ℤ first) (high : first ≤ℤ pos 0) where
   last_is : pos (last_index first) ≡ pos 19999 -ℤ first
@@ -28,7 +22,7 @@ module _ (per : ℕ) (first : ℤ) (some : 1 ≤ per) (low : negsuc 1 ≤ℤ fir
 
   number_back : (n : ℕ) (a : Address) → address_at per first n ≡ Some a → number_at per first a ≡ Some n
   number_back n a e =
-      let h = some_if (leb (n / per) (last_index first)) _ a e in
+      let h = cond_some (leb (n / per) (last_index first)) _ a e in
       let few : n / per ≤ last_index first = leb-true (n / per) (last_index first) h.0 in
       let up : lt_z (first +ℤ pos (n / per)) first ≡ false = grind (arith, ints) in
       let down : lt_z (pos 19999) (first +ℤ pos (n / per)) ≡ false = grind (arith, ints, last_is, few) in
@@ -50,7 +44,7 @@ module _ (per : ℕ) (first : ℤ) (some : 1 ≤ per) (low : negsuc 1 ≤ℤ fir
       let q : n / per ≡ k = ap (λ x. x / per) (sym m) ∙ div-mul-add k per a.sector on in
       let r : n % per ≡ a.sector = ap (λ x. x % per) (sym m) ∙ mod-mul-add k per a.sector on in
       let g : first +ℤ pos k ≡ a.track = omega (arith, ints) in
-      cond_some (leb (n / per) (last_index first)) _ (le-leb (n / per) (last_index first) (omega (arith, q, few)))
+      cond-true (leb (n / per) (last_index first)) _ _ (le-leb (n / per) (last_index first) (omega (arith, q, few)))
       ∙ ap Some (λ i. record { track = (ap (λ x. first +ℤ pos x) q ∙ g) i; sector = r i })
 
 pub undo_each_other : (per : ℕ) (first : ℤ) → 1 ≤ per → (negsuc 1 ≤ℤ first) × (first ≤ℤ pos 0) → UndoEachOther per first

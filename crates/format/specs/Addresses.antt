@@ -1,5 +1,6 @@
 -- The two ways to name a sector: by a number from 0 on, and by a track and a place on it.
-use Rattle.std.specs.Prelude.{◌≡◌, ℕ, ◌+◌, ◌*◌, ◌/◌, ◌%◌, cond, ℤ, pos, ◌+ℤ◌, ◌-ℤ◌, Some, None, Option, int_lt, nat_le, nat_lt, unsigned_abs}
+use Rattle.std.specs.Prelude.{◌≡◌, ℕ, Bool, List, ◌&&◌, ◌++◌, ◌==◌, codes, decimal, ◌+◌, ◌*◌, ◌/◌, ◌%◌, cond, ℤ, pos, ◌+ℤ◌, ◌-ℤ◌, Some, None, Option, int_lt, nat_le, nat_lt, unsigned_abs}
+use Rattle.std.specs.Fmt.{signed_decimal}
 use Rattle.format.specs.declared.addressing.Address.{Address}
 
 -- the number of an address: tracks run from the first to 19,999, and the places on a track from 0 to one less than there are
@@ -18,3 +19,11 @@ address_at per first n = cond (nat_le (n / per) (last_index first)) (Some (recor
 pub record UndoEachOther (per : ℕ) (first : ℤ) : Type 0 where
   pub number_back : (n : ℕ) (a : Address) → address_at per first n ≡ Some a → number_at per first a ≡ Some n
   pub address_back : (a : Address) (n : ℕ) → number_at per first a ≡ Some n → address_at per first n ≡ Some a
+
+-- n sectors are whole tracks: `least` of them at least, and no more than there can be
+abbrev pub whole_tracks : ℕ → ℤ → ℕ → ℕ → Bool
+whole_tracks per first least n = (n % per == 0) && (nat_le least (n / per) && nat_le (n / per) (last_index first + 1))
+
+-- an address as a person reads it
+abbrev pub address_in_words : Address → List ℕ
+address_in_words a = signed_decimal a.track ++ (codes "/" ++ decimal a.sector)

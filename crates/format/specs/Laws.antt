@@ -2,6 +2,7 @@
 use Rattle.std.specs.Prelude.{◌≡◌, ℕ, ◌<◌, Bool, true, false, cond, List, length, Some, Ok, Err, Result, ◌==◌, ◌≢◌}
 use mathlib.Core.List.{Memᴰ}
 use Rattle.format.specs.Blocks.{Link, blank_at, block_in, held, lost, resting, sound_at, spoiled_at, standing}
+use Rattle.medium.specs.Faults.{fault_of}
 use Rattle.medium.specs.Sectors.{Sector}
 use Rattle.medium.specs.declared.faults.Fault.{Fault}
 use Rattle.medium.specs.declared.faults.Layer.TheVariants.{Format}
@@ -10,7 +11,7 @@ use Rattle.medium.specs.declared.faults.Refusal.TheVariants.{NoPlaceLeft, WrongS
 
 -- a refusal that the format finds
 abbrev pub format_fault : Refusal → ℕ → Fault
-format_fault why place = record { refusal = why; layer = Format; place = place }
+format_fault = fault_of Format
 
 -- n blocks with their homes, and the links that stand on the sectors s
 pub record LinksSound (s : List Sector) (n : ℕ) (home : ℕ → ℕ) (links : List Link) : Type 0 where

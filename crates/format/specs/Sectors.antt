@@ -1,13 +1,25 @@
 -- Single sectors and lists of them, as formats look at them.
-use Rattle.std.specs.Prelude.{◌≡◌, ℕ, suc, ◌<◌, Bool, true, false, cond, not, ◌&&◌, ◌||◌, List, [], ◌∷◌, length, Some, None, Option}
+use Rattle.std.specs.Prelude.{◌≡◌, ℕ, suc, ◌<◌, Bool, true, false, cond, not, ◌&&◌, ◌||◌, List, [], ◌∷◌, length, Some, None, Option, option_map}
 use mathlib.Core.List.{Memᴰ}
-use Rattle.format.specs.Blocks.{blank_at, image_of, sound_at}
+use Rattle.format.specs.Blocks.{blank_at, image_of, sound_at, spoiled_at}
 use Rattle.medium.specs.Sectors.{Sector, burnt, is_blank, sector_at}
+use Rattle.medium.specs.declared.interface.Reading.{Reading}
+use Rattle.medium.specs.declared.interface.Reading.TheVariants.{Blank, Spoiled, Sound}
 use Rattle.medium.specs.declared.runs.Burn.{Burn}
 
 -- the bytes of a sector
 abbrev pub image_at : List Sector → ℕ → List ℕ
 image_at s i = image_of (sector_at s i).state
+
+-- what sector i shows to a reader is r
+abbrev pub shows : List Sector → ℕ → Reading → Bool
+shows s i Blank = blank_at s i
+shows s i Spoiled = spoiled_at s i
+shows s i Sound = sound_at s i
+
+-- the bytes of sector i, if it is sound
+abbrev pub sound_image : List Sector → ℕ → Option (List ℕ)
+sound_image s i = cond (sound_at s i) (Some (image_at s i)) None
 
 -- sector i burnt with these bytes, and as weak as it is
 abbrev pub burnt_with : List Sector → ℕ → List ℕ → Sector
@@ -25,6 +37,10 @@ some_free s (i ∷ is) = free s i || some_free s is
 abbrev pub first_sound : List Sector → List ℕ → Option ℕ
 first_sound s [] = None
 first_sound s (i ∷ is) = cond (sound_at s i) (Some i) (first_sound s is)
+
+-- that one with its bytes
+abbrev pub sound_copy : List Sector → List ℕ → Option (ℕ × List ℕ)
+sound_copy s is = option_map (λ i. (i, image_at s i)) (first_sound s is)
 
 -- the burns of one image into some sectors, in their order
 abbrev pub copy_burns : List ℕ → List ℕ → List Burn

@@ -1,6 +1,8 @@
 // How the sectors of a medium are numbered by tracks, for any number of sectors a track and any first track.
-ghost use Rattle.std.specs.Prelude.{◌≡◌, ℕ, ◌≤◌, ℤ, pos, negsuc, ◌≤ℤ◌};
-ghost use Rattle.format.specs.Addresses.{UndoEachOther, address_at, number_at};
+ghost use Rattle.std.specs.Prelude.{◌≡◌, ℕ, ◌≤◌, ℤ, pos, negsuc, Some, ◌≤ℤ◌};
+ghost use Rattle.format.specs.Addresses.{UndoEachOther, address_at, address_in_words, number_at, whole_tracks};
+
+use std::fmt;
 
 // No format has a track behind this one.
 pub const LAST_TRACK: i32 = 19_999;
@@ -12,70 +14,66 @@ pub struct Address {
     pub sector: u32,
 }
 
-// What an addressing fixes. The methods hand the constants to generic code, with what is known of them.
+impl fmt::Display for Address {
+    ghost output = { λ address. Some (address_in_words address) };
+
+    fn fmt<W: fmt::Write>(&self, f: &mut fmt::Formatter<W>) -> fmt::Result {
+        let track = self.track;
+        let sector = self.sector;
+        write!(f, "{track}/{sector}")
+    }
+}
+
+// What an addressing fixes.
 pub trait Addressing {
     const SECTORS_PER_TRACK: u32;
 
     const FIRST_TRACK: i32;
 
-    ghost track_size: { ℕ };
+    ghost SECTORS_PER_TRACK: { ℕ };
 
-    ghost start_track: { ℤ };
+    ghost FIRST_TRACK: { ℤ };
 
-    fn per_track() -> u32
-        ensures { result ≡ track_size };
+    ghost few: { (1 ≤ SECTORS_PER_TRACK) × (SECTORS_PER_TRACK ≤ 32) };
 
-    fn lowest_track() -> i32
-        ensures { result ≡ start_track };
-
-    ghost few: { (1 ≤ track_size) × (track_size ≤ 32) };
-
-    ghost near: { (negsuc 1 ≤ℤ start_track) × (start_track ≤ℤ pos 0) };
+    ghost near: { (negsuc 1 ≤ℤ FIRST_TRACK) × (FIRST_TRACK ≤ℤ pos 0) };
 }
 
 // The number of the sector at an address, if there is such an address.
 pub fn number_of<A: Addressing>(address: Address) -> Option<u32>
-    ensures answer { result ≡ number_at A.Addressing.track_size A.Addressing.start_track address }
-    ensures undone { UndoEachOther A.Addressing.track_size A.Addressing.start_track }
+    ensures answer { result ≡ number_at A.SECTORS_PER_TRACK A.FIRST_TRACK address }
+    ensures undone { UndoEachOther A.SECTORS_PER_TRACK A.FIRST_TRACK }
 {
-    to_number::<A>(address)
+    if address.track < A::FIRST_TRACK
+        || address.track > LAST_TRACK
+        || address.sector >= A::SECTORS_PER_TRACK
+    {
+        return None;
+    }
+    let tracks_before = (address.track - A::FIRST_TRACK) as u32;
+    Some(tracks_before * A::SECTORS_PER_TRACK + address.sector)
 }
 
 // The address of a sector, if there is a sector of that number.
 pub fn address_of<A: Addressing>(number: u32) -> Option<Address>
-    ensures answer { result ≡ address_at A.Addressing.track_size A.Addressing.start_track number }
-    ensures undone { UndoEachOther A.Addressing.track_size A.Addressing.start_track }
+    ensures answer { result ≡ address_at A.SECTORS_PER_TRACK A.FIRST_TRACK number }
+    ensures undone { UndoEachOther A.SECTORS_PER_TRACK A.FIRST_TRACK }
 {
-    to_address::<A>(number)
-}
-
-fn to_number<A: Addressing>(address: Address) -> Option<u32>
-    ensures { result ≡ number_at A.Addressing.track_size A.Addressing.start_track address }
-{
-    let first = A::lowest_track();
-    let per = A::per_track();
-    if address.track < first {
-        return None;
-    }
-    if address.track > LAST_TRACK {
-        return None;
-    }
-    if address.sector >= per {
-        return None;
-    }
-    Some((address.track - first) as u32 * per + address.sector)
-}
-
-fn to_address<A: Addressing>(number: u32) -> Option<Address>
-    ensures { result ≡ address_at A.Addressing.track_size A.Addressing.start_track number }
-{
-    let first = A::lowest_track();
-    let per = A::per_track();
-    if number / per > (LAST_TRACK - first) as u32 {
+    let tracks_before = number / A::SECTORS_PER_TRACK;
+    if tracks_before > (LAST_TRACK - A::FIRST_TRACK) as u32 {
         return None;
     }
     Some(Address {
-        track: first + (number / per) as i32,
-        sector: number % per,
+        track: A::FIRST_TRACK + tracks_before as i32,
+        sector: number % A::SECTORS_PER_TRACK,
     })
+}
+
+// Whether so many sectors are whole tracks: `least` of them at least, and no more than there can be.
+pub fn are_whole_tracks<A: Addressing>(sectors: u32, least: u32) -> bool
+    ensures { result ≡ whole_tracks A.SECTORS_PER_TRACK A.FIRST_TRACK least sectors }
+{
+    let tracks = sectors / A::SECTORS_PER_TRACK;
+    let most = (LAST_TRACK - A::FIRST_TRACK) as u32 + 1;
+    sectors % A::SECTORS_PER_TRACK == 0 && least <= tracks && tracks <= most
 }

@@ -8,6 +8,11 @@ ghost use Rattle.medium.specs.declared.faults.Fault.{Fault};
 use crate::addressing::Addressing;
 use medium::{Fault, Medium};
 
+// The bytes of one block. The sheet of a layout has as many.
+pub const BLOCK_BYTES: usize = 512;
+
+pub type Block = [u8; BLOCK_BYTES];
+
 // A value of the type is a layout on a medium of some size.
 pub trait Format: Addressing + Sized {
     ghost blocks: { Self → ℕ };
@@ -27,8 +32,7 @@ pub trait Format: Addressing + Sized {
 
     ghost stored: { Self → List Sector → ℕ → List ℕ → List Sector };
 
-    fn initialise<M: Medium>(medium: &mut M, sheet: &[u8]) -> Result<Self, Fault>
-        requires { length sheet.now ≡ 512 }
+    fn initialise<M: Medium>(medium: &mut M, sheet: &Block) -> Result<Self, Fault>
         ensures answer { result ≡ initialising (M.Medium.sectors medium.old) sheet.now }
         ensures after { M.Medium.sectors medium.new ≡ initialised (M.Medium.sectors medium.old) sheet.now };
 
@@ -36,10 +40,9 @@ pub trait Format: Addressing + Sized {
         ensures { result ≡ mounting (M.Medium.sectors medium.now) };
 
     // What it promises holds where the medium mounts with this layout.
-    fn store<M: Medium>(&self, medium: &mut M, block: u32, bytes: &[u8]) -> Result<(), Fault>
+    fn store<M: Medium>(&self, medium: &mut M, block: u32, bytes: &Block) -> Result<(), Fault>
         requires there { block < blocks self.now }
         requires unwritten { blank_at (M.Medium.sectors medium.old) (home self.now block) ≡ true }
-        requires whole { length bytes.now ≡ 512 }
         ensures answer { mounting (M.Medium.sectors medium.old) ≡ Ok self.now → result ≡ storing (left self.now (M.Medium.sectors medium.old) block) block }
         ensures after { mounting (M.Medium.sectors medium.old) ≡ Ok self.now → M.Medium.sectors medium.new ≡ stored self.now (M.Medium.sectors medium.old) block bytes.now };
 

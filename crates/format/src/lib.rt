@@ -4,12 +4,10 @@
 
 pub mod addressing;
 pub mod copies;
-pub mod faults;
 pub mod interface;
 pub mod sectors;
 
-pub use addressing::{Address, Addressing, LAST_TRACK, address_of, number_of};
+pub use addressing::{Address, Addressing, LAST_TRACK, address_of, are_whole_tracks, number_of};
 pub use copies::{burn_copies, find_copy};
-pub use faults::fault;
-pub use interface::Format;
-pub use sectors::{burn_blank, is_blank, is_spoiled, read_sound};
+pub use interface::{BLOCK_BYTES, Block, Format};
+pub use sectors::{burn_blank, read_sound, shows};

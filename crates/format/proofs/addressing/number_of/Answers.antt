@@ -1,5 +1,8 @@
 use Rattle.format.proofs.Undoing.{undo_each_other}
 use Rattle.format.proofs.addressing.number_of.Goals as goal
 
-pub returns : goal.returns
-returns g c = record { answer = c.to_number.ensures; undone = undo_each_other _ _ g.met.A.Addressing.few.0 g.met.A.Addressing.near }
+pub returns-then-address-FIRST_TRACK-clause-undone : goal.returns-then-address-FIRST_TRACK-clause-undone
+returns-then-address-FIRST_TRACK-clause-undone g c = undo_each_other _ _ g.A.Addressing.few.0 g.A.Addressing.near
+
+pub returns-clause-undone : goal.returns-clause-undone
+returns-clause-undone g c = undo_each_other _ _ g.A.Addressing.few.0 g.A.Addressing.near
