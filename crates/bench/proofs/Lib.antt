@@ -1,2 +1,1 @@
-mod Compared
 mod Agreed

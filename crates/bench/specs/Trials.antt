@@ -1,5 +1,5 @@
 -- What a bench test finds, on any medium and for any list of burns.
-use Rattle.std.specs.Prelude.{◌≡◌, ℕ, ◌+◌, ◌<◌, Bool, true, false, cond, List, [], ◌∷◌, map, length, Ok, Err, vec_items, Result, slice_index_or}
+use Rattle.std.specs.Prelude.{◌≡◌, ℕ, ◌<◌, Bool, true, false, cond, List, map, count_by, length, Ok, Err, vec_items, Result, slice_index_or}
 use Rattle.bench.specs.declared.compare.ReadBack.{ReadBack}
 use Rattle.bench.specs.declared.compare.ReadBack.TheVariants.{Blank, Spoiled, Same, Different}
 use Rattle.bench.specs.declared.trial.Account.{Account}
@@ -36,13 +36,8 @@ found_same (Ok Spoiled) = false
 found_same (Ok Different) = false
 found_same (Err f) = false
 
-abbrev pub one_if : Bool → ℕ
-one_if true = 1
-one_if false = 0
-
 abbrev pub alike : List (Result ReadBack Fault) → ℕ
-alike [] = 0
-alike (r ∷ rs) = one_if (found_same r) + alike rs
+alike rs = count_by found_same rs
 
 -- burns bs took the sectors s to t, and a is the account of it
 pub record Tested (s : List Sector) (bs : List Burn) (a : Account) (t : List Sector) : Type 0 where

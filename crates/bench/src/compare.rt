@@ -29,13 +29,7 @@ pub fn read_back<M: Medium>(medium: &M, burn: &Burn) -> Result<ReadBack, Fault>
 pub fn count_alike(readings: &[Result<ReadBack, Fault>]) -> usize
     ensures { result ≡ alike readings.now }
 {
-    let mut count = 0;
-    for reading in readings {
-        if is_same(reading) {
-            count += 1;
-        }
-    }
-    count
+    readings.iter().filter(|reading| is_same(reading)).count()
 }
 
 fn is_same(reading: &Result<ReadBack, Fault>) -> bool

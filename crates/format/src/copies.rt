@@ -7,11 +7,7 @@ use crate::sectors::{burn_blank, read_sound};
 use medium::{Fault, Image, Medium};
 
 // Burns the image into all the sectors, in their order; whether one of them proves sound.
-pub fn burn_copies<M: Medium>(
-    medium: &mut M,
-    sectors: &[u32],
-    image: &Image,
-) -> Result<bool, Fault>
+pub fn burn_copies<M: Medium>(medium: &mut M, sectors: &[u32], image: &Image) -> Result<bool, Fault>
     requires apart { Apart sectors.now }
     requires blank { AllBlank (M.Medium.sectors medium.old) sectors.now }
     ensures answer { result ≡ Ok (some_free (M.Medium.sectors medium.old) sectors.now) }
