@@ -1,5 +1,8 @@
 -- The two ways to name a sector: by a number from 0 on, and by a track and a place on it.
-use Rattle.std.specs.Prelude.{◌≡◌, ℕ, Bool, List, ◌&&◌, ◌++◌, ◌==◌, codes, decimal, ◌+◌, ◌*◌, ◌/◌, ◌%◌, cond, ℤ, pos, ◌+ℤ◌, ◌-ℤ◌, Some, None, Option, int_lt, nat_le, nat_lt, unsigned_abs}
+use Rattle.std.specs.Prelude.{◌≡◌, ℕ, Bool, true, negsuc, ◌≤ℤ◌, ◌≤◌, int_le, List, ◌&&◌, ◌++◌, ◌==◌, codes, decimal, ◌+◌, ◌*◌, ◌/◌, ◌%◌, cond, ℤ, pos, ◌+ℤ◌, ◌-ℤ◌, Some, None, Option, int_lt, nat_le, nat_lt, unsigned_abs}
+use Rattle.std.proofs.Common.{arith}
+use Rattle.std.proofs.lemmas.Bool.{and_parts, leb-true}
+use Rattle.std.proofs.lemmas.Int.{ints}
 use Rattle.std.specs.Fmt.{signed_decimal}
 use Rattle.format.specs.declared.addressing.Address.{Address}
 
@@ -27,3 +30,10 @@ whole_tracks per first least n = (n % per == 0) && (nat_le least (n / per) && na
 -- an address as a person reads it
 abbrev pub address_in_words : Address → List ℕ
 address_in_words a = signed_decimal a.track ++ (codes "/" ++ decimal a.sector)
+
+-- what an addressing has to show of its constants, where they are known numbers
+pub few_sectors : (n : ℕ) → (nat_le 1 n && nat_le n 32) ≡ true → (1 ≤ n) × (n ≤ 32)
+few_sectors n h = let e = and_parts (nat_le 1 n) (nat_le n 32) h in (leb-true 1 n e.0, leb-true n 32 e.1)
+
+pub near_zero : (z : ℤ) → (int_le (negsuc 1) z && int_le z (pos 0)) ≡ true → (negsuc 1 ≤ℤ z) × (z ≤ℤ pos 0)
+near_zero z h = grind (arith, ints, and_parts (int_le (negsuc 1) z) (int_le z (pos 0)) h)

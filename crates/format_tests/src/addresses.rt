@@ -9,22 +9,10 @@ fn at(track: i32, sector: u32) -> Address {
 
 #[test]
 fn constants(rt: HostRuntime) {
-    assert_eq!(rt;
-        <Pointers as format::Addressing>::SECTORS_PER_TRACK,
-        <Pointers as format::Addressing>::per_track()
-    );
-    assert_eq!(rt;
-        <Pointers as format::Addressing>::FIRST_TRACK,
-        <Pointers as format::Addressing>::lowest_track()
-    );
-    assert_eq!(rt;
-        <Maps as format::Addressing>::SECTORS_PER_TRACK,
-        <Maps as format::Addressing>::per_track()
-    );
-    assert_eq!(rt;
-        <Maps as format::Addressing>::FIRST_TRACK,
-        <Maps as format::Addressing>::lowest_track()
-    );
+    assert_eq!(rt; <Pointers as format::Addressing>::SECTORS_PER_TRACK, 31);
+    assert_eq!(rt; <Pointers as format::Addressing>::FIRST_TRACK, 0);
+    assert_eq!(rt; <Maps as format::Addressing>::SECTORS_PER_TRACK, 32);
+    assert_eq!(rt; <Maps as format::Addressing>::FIRST_TRACK, -2);
 }
 
 #[test]

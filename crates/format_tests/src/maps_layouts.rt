@@ -43,7 +43,7 @@ fn refusal_for(sectors: u32, sheet: &[u8]) -> u8 {
     }
     match Maps::read(sectors, sheet) {
         Ok(_) => 0,
-        Err(fault) => fault.refusal.number(),
+        Err(fault) => u8::from(fault.refusal),
     }
 }
 

@@ -62,7 +62,7 @@ fn example_with(at: usize, byte: u8) -> [u8; 512] {
 fn refusal_for(sectors: u32, sheet: [u8; 512]) -> u8 {
     match Pointers::read(sectors, &sheet) {
         Ok(_) => 0,
-        Err(fault) => fault.refusal.number(),
+        Err(fault) => u8::from(fault.refusal),
     }
 }
 

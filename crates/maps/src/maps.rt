@@ -1,7 +1,7 @@
 // The layout of a medium of this format, once it is known to keep the rules.
-ghost use Rattle.std.specs.Prelude.{◌≡◌, ℕ, true, length, negsuc, slice_index_or};
+ghost use Rattle.std.specs.Prelude.{◌≡◌, ℕ, true, length, negsuc, refl, slice_index_or};
 ghost use Rattle.maps.specs.Places.{band_formed, no_band, valid};
-ghost use Rattle.std.proofs.Common.{rules, arith};
+ghost use Rattle.format.specs.Addresses.{few_sectors, near_zero};
 
 use crate::bands;
 use crate::bands::Layout;
@@ -25,19 +25,11 @@ impl Addressing for Maps {
 
     const FIRST_TRACK: i32 = -2;
 
-    ghost track_size = { 32 };
+    ghost SECTORS_PER_TRACK = { 32 };
 
-    ghost start_track = { negsuc 1 };
+    ghost FIRST_TRACK = { negsuc 1 };
 
-    ghost few = { first_of (Prim.search rules, Prim.grind (arith, Self.row.coded.inj)) };
+    ghost few = { few_sectors 32 refl };
 
-    ghost near = { first_of (Prim.search rules, Prim.grind (arith, Self.row.coded.inj)) };
-
-    fn per_track() -> u32 {
-        Self::SECTORS_PER_TRACK
-    }
-
-    fn lowest_track() -> i32 {
-        Self::FIRST_TRACK
-    }
+    ghost near = { near_zero (negsuc 1) refl };
 }

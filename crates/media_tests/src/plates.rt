@@ -1,5 +1,5 @@
 // Where a plate is just opened, and where just not; what a call of a wrong length or number is told.
-use medium::{Fault, Layer, Medium, Reading, Refusal, Verdict};
+use medium::{Fault, Layer, Medium, Reading, Refusal, Verdict, is_sized};
 use plate::{CELL_BYTES, Flaw, Plate};
 use std::alloc::{AllocError, Global};
 use std::test::Fail;
@@ -13,18 +13,18 @@ fn refusal_for(heap: Global, flaws: &[Flaw], count: u8) -> Result<u8, AllocError
     let memory = vec![in heap; 0u8; CELL_BYTES * count as usize]?;
     match Plate::open(memory, flaws.to_vec(heap)?, u32::from(count)) {
         Ok(_) => Ok(0),
-        Err(unopened) => Ok(unopened.fault.refusal.number()),
+        Err(unopened) => Ok(u8::from(unopened.fault.refusal)),
     }
 }
 
 #[test]
 fn sizes(rt: HostRuntime) {
-    assert!(rt; !Plate::is_sized(0, 0));
-    assert!(rt; Plate::is_sized(525, 1));
-    assert!(rt; !Plate::is_sized(524, 1));
-    assert!(rt; !Plate::is_sized(526, 1));
-    assert!(rt; Plate::is_sized(525 * 640_064, 640_064));
-    assert!(rt; !Plate::is_sized(525 * 640_065, 640_065));
+    assert!(rt; !is_sized::<CELL_BYTES>(0, 0));
+    assert!(rt; is_sized::<CELL_BYTES>(525, 1));
+    assert!(rt; !is_sized::<CELL_BYTES>(524, 1));
+    assert!(rt; !is_sized::<CELL_BYTES>(526, 1));
+    assert!(rt; is_sized::<CELL_BYTES>(525 * 640_064, 640_064));
+    assert!(rt; !is_sized::<CELL_BYTES>(525 * 640_065, 640_065));
 }
 
 #[test]

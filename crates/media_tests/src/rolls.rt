@@ -1,6 +1,6 @@
 // Where a roll is just opened, and where just not; how its last slots are used.
-use medium::{Fault, Layer, Medium, Reading, Refusal, Verdict};
-use roll::{Roll, WhyNot};
+use medium::{Fault, Layer, Medium, Reading, Refusal, Verdict, is_sized};
+use roll::{BYTES_A_SECTOR, Roll, WhyNot};
 use std::alloc::{AllocError, Global};
 use std::test::Fail;
 
@@ -22,7 +22,7 @@ fn refusal_for(heap: Global, verdicts: &[u8], numbers: &[u32]) -> Result<u8, All
     match Roll::open(heap, memory_of(heap, verdicts, numbers)?, 3) {
         Ok(_) => Ok(0),
         Err(unopened) => match unopened.why {
-            WhyNot::Refused(fault) => Ok(fault.refusal.number()),
+            WhyNot::Refused(fault) => Ok(u8::from(fault.refusal)),
             WhyNot::NoMemory => Err(AllocError),
         },
     }
@@ -30,12 +30,12 @@ fn refusal_for(heap: Global, verdicts: &[u8], numbers: &[u32]) -> Result<u8, All
 
 #[test]
 fn sizes(rt: HostRuntime) {
-    assert!(rt; !Roll::is_sized(0, 0));
-    assert!(rt; Roll::is_sized(529, 1));
-    assert!(rt; !Roll::is_sized(528, 1));
-    assert!(rt; !Roll::is_sized(530, 1));
-    assert!(rt; Roll::is_sized(529 * 640_064, 640_064));
-    assert!(rt; !Roll::is_sized(529 * 640_065, 640_065));
+    assert!(rt; !is_sized::<BYTES_A_SECTOR>(0, 0));
+    assert!(rt; is_sized::<BYTES_A_SECTOR>(529, 1));
+    assert!(rt; !is_sized::<BYTES_A_SECTOR>(528, 1));
+    assert!(rt; !is_sized::<BYTES_A_SECTOR>(530, 1));
+    assert!(rt; is_sized::<BYTES_A_SECTOR>(529 * 640_064, 640_064));
+    assert!(rt; !is_sized::<BYTES_A_SECTOR>(529 * 640_065, 640_065));
 }
 
 #[test]

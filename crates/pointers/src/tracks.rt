@@ -1,6 +1,6 @@
 // How this format numbers its sectors: 31 a track, from track 0 on.
-ghost use Rattle.std.specs.Prelude.{◌≡◌, ◌*◌, ◌≤◌, pos};
-ghost use Rattle.std.proofs.Common.{rules, arith};
+ghost use Rattle.std.specs.Prelude.{◌≡◌, ◌*◌, ◌≤◌, pos, refl};
+ghost use Rattle.format.specs.Addresses.{few_sectors, near_zero};
 
 use crate::layout::SECTORS_A_TRACK;
 use crate::pointers::Pointers;
@@ -11,21 +11,13 @@ impl Addressing for Pointers {
 
     const FIRST_TRACK: i32 = 0;
 
-    ghost track_size = { 31 };
+    ghost SECTORS_PER_TRACK = { 31 };
 
-    ghost start_track = { pos 0 };
+    ghost FIRST_TRACK = { pos 0 };
 
-    ghost few = { first_of (Prim.search rules, Prim.grind (arith, Self.row.coded.inj)) };
+    ghost few = { few_sectors 31 refl };
 
-    ghost near = { first_of (Prim.search rules, Prim.grind (arith, Self.row.coded.inj)) };
-
-    fn per_track() -> u32 {
-        Self::SECTORS_PER_TRACK
-    }
-
-    fn lowest_track() -> i32 {
-        Self::FIRST_TRACK
-    }
+    ghost near = { near_zero (pos 0) refl };
 }
 
 // The first sector of a track.

@@ -1,9 +1,9 @@
 // Format A behind the interface of a format.
-ghost use Rattle.std.specs.Prelude.{pos};
+ghost use Rattle.std.specs.Prelude.{pos, refl};
 ghost use Rattle.pointers_format.specs.Initialising.{initialised as left_by_initialising, initialising as initialise_answer};
 ghost use Rattle.pointers_format.specs.Meaning.{blocks_of, home_of, left_of, links_of, stored_of};
 ghost use Rattle.pointers_format.specs.Mounting.{mounting as mount_answer};
-ghost use Rattle.std.proofs.Common.{rules};
+ghost use Rattle.format.specs.Addresses.{few_sectors, near_zero};
 ghost use Rattle.pointers_format.specs.Mounted.{links_sound, some_blocks};
 ghost use Rattle.pointers_format.specs.Begun;
 ghost use Rattle.pointers_format.specs.Kept;
@@ -24,21 +24,13 @@ impl Addressing for FormatA {
 
     const FIRST_TRACK: i32 = 0;
 
-    ghost track_size = { 31 };
+    ghost SECTORS_PER_TRACK = { 31 };
 
-    ghost start_track = { pos 0 };
+    ghost FIRST_TRACK = { pos 0 };
 
-    ghost few = { Prim.search rules };
+    ghost few = { few_sectors 31 refl };
 
-    ghost near = { Prim.search rules };
-
-    fn per_track() -> u32 {
-        Self::SECTORS_PER_TRACK
-    }
-
-    fn lowest_track() -> i32 {
-        Self::FIRST_TRACK
-    }
+    ghost near = { near_zero (pos 0) refl };
 }
 
 impl Format for FormatA {

@@ -33,7 +33,7 @@ fn flaw(offset: u32, length: u32) -> Flaw {
 fn told<T: Drop>(answer: Result<T, Fault>) -> (u8, u32) {
     match answer {
         Ok(_) => (0, 0),
-        Err(fault) => (fault.refusal.number(), fault.place),
+        Err(fault) => (u8::from(fault.refusal), fault.place),
     }
 }
 

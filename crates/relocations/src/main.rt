@@ -139,7 +139,7 @@ fn or_report<T>(rt: &HostRuntime, answer: Result<T, Fault>) -> anyhow::Result<T>
 }
 
 fn print_fault(rt: &HostRuntime, fault: Fault) -> io::Result<()> {
-    let number = fault.refusal.number();
+    let number = u8::from(fault.refusal);
     let layer = fault.layer.name();
     let place = fault.place;
     println!(rt; "refusal {number} of the {layer} at {place}")

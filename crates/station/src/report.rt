@@ -79,7 +79,7 @@ fn print_refusals(rt: &HostRuntime, plan: &[Burn], account: &Account) -> anyhow:
 }
 
 pub(crate) fn print_fault(rt: &HostRuntime, fault: Fault) -> io::Result<()> {
-    let number = fault.refusal.number();
+    let number = u8::from(fault.refusal);
     let meaning = meaning(fault.refusal);
     let layer = fault.layer.name();
     let place = fault.place;

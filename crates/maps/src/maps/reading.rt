@@ -6,8 +6,7 @@ use crate::bands::{SECTORS_PER_TRACK, TRACKS_BEFORE_END};
 use crate::maps::Maps;
 use crate::rules::is_valid;
 use crate::sheet::{is_identified, layout_in};
-use format::fault;
-use medium::{Fault, MOST_SECTORS, Refusal};
+use medium::{Fault, Layer, MOST_SECTORS, Refusal};
 
 // The lowest number that the last track of a medium may have.
 const LEAST_LAST_TRACK: u32 = 8;
@@ -28,11 +27,11 @@ impl Maps {
         ensures rules { MatchResult result (SheetRead sectors sheet.now) (SheetRefused sectors sheet.now) }
     {
         if !fits_format(sectors) {
-            return Err(fault(Refusal::WrongSectorCount, 0));
+            return Err(Layer::Format.refuses(Refusal::WrongSectorCount, 0));
         }
         let layout = layout_in(sectors / SECTORS_PER_TRACK - TRACKS_BEFORE_END, sheet);
         if !(is_identified(sheet) & is_valid(&layout)) {
-            return Err(fault(Refusal::BrokenLayout, 0));
+            return Err(Layer::Format.refuses(Refusal::BrokenLayout, 0));
         }
         Ok(Maps { layout })
     }

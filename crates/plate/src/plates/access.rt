@@ -7,7 +7,7 @@ ghost use Rattle.plate.specs.Sectored.{plate_lawful};
 use crate::cells::{BLANK, fill_cell, image_of, mark_of};
 use crate::flaws::any_covers;
 use crate::plates::Plate;
-use medium::{Fault, Medium, Reading, Refusal, Verdict, reach};
+use medium::{Fault, Layer, Medium, Reading, Refusal, Verdict, reach};
 
 impl Medium for Plate {
     ghost sectors = { sectors_of };
@@ -39,7 +39,7 @@ impl Medium for Plate {
     {
         reach(self.count, sector, image.len())?;
         if mark_of(self.memory.as_slice(), sector) != BLANK {
-            return Err(Fault::in_medium(Refusal::AlreadyBurnt, sector));
+            return Err(Layer::Medium.refuses(Refusal::AlreadyBurnt, sector));
         }
         fill_cell(self.memory.as_mut_slice(), sector, image);
         Ok(Verdict::of(any_covers(self.flaws.as_slice(), sector)))

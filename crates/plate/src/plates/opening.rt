@@ -1,21 +1,14 @@
 // Opening a plate on the caller's bytes, and closing it again.
 ghost use Rattle.plate.specs.Opening.{Closed, Opened, Refused};
-ghost use Rattle.plate.specs.Plates.{PlateOpenable, PlateRefused, PlateSized};
-ghost use Rattle.std.specs.Prelude.{Decides, MatchResult};
+ghost use Rattle.plate.specs.Plates.{PlateOpenable, PlateRefused};
+ghost use Rattle.std.specs.Prelude.{MatchResult};
 
 use crate::cells::{CELL_BYTES, are_marked};
 use crate::flaws::{Flaw, are_formed};
 use crate::plates::{Plate, Unopened};
-use medium::{Fault, MOST_SECTORS, Refusal};
+use medium::{Fault, Layer, Refusal, is_sized};
 
 impl Plate {
-    // Whether a memory of `len` bytes is that of a plate of `count` sectors.
-    pub fn is_sized(len: usize, count: u32) -> bool
-        ensures { Decides result (PlateSized len count) }
-    {
-        1 <= count && count <= MOST_SECTORS && len == CELL_BYTES * count as usize
-    }
-
     // Takes the caller's bytes, whatever they hold, and hands them back with the fault if they are no plate's.
     pub fn open(memory: Vec<u8>, flaws: Vec<Flaw>, count: u32) -> Result<Plate, Unopened>
         ensures { MatchResult result (Opened memory flaws count) (Refused memory flaws count) }
@@ -51,11 +44,11 @@ impl Plate {
 fn check(memory: &[u8], flaws: &[Flaw], count: u32) -> Result<(), Fault>
     ensures { MatchResult result (λ _. PlateOpenable memory.now flaws.now count) (PlateRefused memory.now flaws.now count) }
 {
-    if !Plate::is_sized(memory.len(), count) {
-        return Err(Fault::in_medium(Refusal::WrongMemory, 0));
+    if !is_sized::<CELL_BYTES>(memory.len(), count) {
+        return Err(Layer::Medium.refuses(Refusal::WrongMemory, 0));
     }
     if !are_marked(memory, count) || !are_formed(flaws, count) {
-        return Err(Fault::in_medium(Refusal::BrokenForm, 0));
+        return Err(Layer::Medium.refuses(Refusal::BrokenForm, 0));
     }
     Ok(())
 }

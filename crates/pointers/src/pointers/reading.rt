@@ -8,8 +8,7 @@ ghost use Rattle.pointers.specs.Sheets.{marked, sheet_of};
 use crate::layout::{LEAST_TRACKS, Layout, MOST_TRACKS, SECTORS_A_TRACK};
 use crate::pointers::Pointers;
 use crate::sheet::is_marked;
-use format::fault;
-use medium::{Fault, Refusal};
+use medium::{Fault, Layer, Refusal};
 
 // Whether a medium of so many sectors fits the format: whole tracks, neither too few nor too many.
 pub fn fits_format(sectors: u32) -> bool
@@ -35,12 +34,12 @@ impl Pointers {
         ensures meaning { MatchResult result (SheetRead sectors sheet.now) (SheetRefused sectors sheet.now) }
     {
         if !fits_format(sectors) {
-            return Err(fault(Refusal::WrongSectorCount, 0));
+            return Err(Layer::Format.refuses(Refusal::WrongSectorCount, 0));
         }
         let last = sectors / SECTORS_A_TRACK - 1;
         let layout = Layout::in_sheet(sheet);
         if !stands(&layout, last, sheet) {
-            return Err(fault(Refusal::BrokenLayout, 0));
+            return Err(Layer::Format.refuses(Refusal::BrokenLayout, 0));
         }
         Ok(Pointers { sectors, layout })
     }

@@ -6,7 +6,7 @@ ghost use Rattle.roll.specs.Wound.{roll_lawful};
 
 use crate::rolls::Roll;
 use crate::slots::{NO_SLOT, is_weak, slot_at, slot_image, write_slot};
-use medium::{Fault, Medium, Reading, Refusal, Verdict, reach};
+use medium::{Fault, Layer, Medium, Reading, Refusal, Verdict, reach};
 
 impl Medium for Roll {
     ghost sectors = { sectors_of };
@@ -39,7 +39,7 @@ impl Medium for Roll {
     {
         reach(self.count, sector, image.len())?;
         if self.index[sector as usize] != NO_SLOT {
-            return Err(Fault::in_medium(Refusal::AlreadyBurnt, sector));
+            return Err(Layer::Medium.refuses(Refusal::AlreadyBurnt, sector));
         }
         let at = slot_at(self.count, self.used);
         write_slot(self.memory.as_mut_slice(), at, sector, image);

@@ -6,24 +6,17 @@ ghost use Rattle.roll.specs.Slots.{Indexed, UsedSlots, Verdicts, free};
 
 use crate::rolls::{Roll, Unopened, WhyNot};
 use crate::slots::{BYTES_A_SECTOR, NO_SLOT, are_verdicts, fill_index};
-use medium::{Fault, MOST_SECTORS, Refusal};
+use medium::{Layer, Refusal, is_sized};
 use std::alloc::Global;
 
 impl Roll {
-    // Whether a memory of `len` bytes is that of a roll of `count` sectors.
-    pub fn is_sized(len: usize, count: u32) -> bool
-        ensures { Decides result (RollSized len count) }
-    {
-        1 <= count && count <= MOST_SECTORS && len == BYTES_A_SECTOR * count as usize
-    }
-
     // Takes the caller's bytes, whatever they hold, and hands them back with the reason if they are no roll's,
     // or if there is no memory for the index.
     pub fn open(heap: Global, memory: Vec<u8>, count: u32) -> Result<Roll, Unopened>
         ensures { MatchResult result (Opened memory count) (NotOpened memory count) }
     {
-        if !Roll::is_sized(memory.len(), count) {
-            let why = WhyNot::Refused(Fault::in_medium(Refusal::WrongMemory, 0));
+        if !is_sized::<BYTES_A_SECTOR>(memory.len(), count) {
+            let why = WhyNot::Refused(Layer::Medium.refuses(Refusal::WrongMemory, 0));
             return Err(Unopened { why, memory });
         }
         let Ok(mut index) = vec![in heap; NO_SLOT; count as usize] else {
@@ -38,7 +31,7 @@ impl Roll {
                 count,
             }),
             None => {
-                let why = WhyNot::Refused(Fault::in_medium(Refusal::BrokenForm, 0));
+                let why = WhyNot::Refused(Layer::Medium.refuses(Refusal::BrokenForm, 0));
                 Err(Unopened { why, memory })
             }
         }

@@ -7,7 +7,7 @@ use Rattle.maps.specs.Sheets.{identified}
 use Rattle.maps.proofs.maps.Maps.read.Goals as goal
 
 pub returns-then-not-fits_format : goal.returns-then-not-fits_format
-returns-then-not-fits_format c = record { answer = unfitting c.args.sectors c.args.sheet.now _ c.if-not-fits_format.ensures c.fault.ensures; rules = refused_size c.args.sectors c.args.sheet.now _ c.if-not-fits_format.ensures c.fault.ensures }
+returns-then-not-fits_format c = record { answer = unfitting c.args.sectors c.args.sheet.now _ c.if-not-fits_format.ensures c.refuses.ensures; rules = refused_size c.args.sectors c.args.sheet.now _ c.if-not-fits_format.ensures c.refuses.ensures }
 
 pub is_valid-requires : goal.is_valid-requires
 is_valid-requires c = read_laid c.args.sectors c.args.sheet.now _ c.if-not-fits_format.ensures c.layout_in-layout.ensures
@@ -18,7 +18,7 @@ tested r s i v e f = cc
 
 pub returns-then-not-is_identified-is_valid : goal.returns-then-not-is_identified-is_valid
 returns-then-not-is_identified-is_valid c =
-    record { answer = broken c.args.sectors c.args.sheet.now _ _ c.if-not-fits_format.ensures c.layout_in-layout.ensures (tested _ _ _ _ c.is_identified.ensures c.is_valid.ensures ∙ c.if-not-is_identified-is_valid.true) c.fault-then-not-is_identified-is_valid.ensures; rules = refused_rules c.args.sectors c.args.sheet.now _ _ c.if-not-fits_format.ensures c.layout_in-layout.ensures (tested _ _ _ _ c.is_identified.ensures c.is_valid.ensures ∙ c.if-not-is_identified-is_valid.true) c.fault-then-not-is_identified-is_valid.ensures }
+    record { answer = broken c.args.sectors c.args.sheet.now _ _ c.if-not-fits_format.ensures c.layout_in-layout.ensures (tested _ _ _ _ c.is_identified.ensures c.is_valid.ensures ∙ c.if-not-is_identified-is_valid.true) c.refuses-then-not-is_identified-is_valid.ensures; rules = refused_rules c.args.sectors c.args.sheet.now _ _ c.if-not-fits_format.ensures c.layout_in-layout.ensures (tested _ _ _ _ c.is_identified.ensures c.is_valid.ensures ∙ c.if-not-is_identified-is_valid.true) c.refuses-then-not-is_identified-is_valid.ensures }
 
 pub invariant_of-result : goal.invariant_of-result
 invariant_of-result c =

@@ -22,7 +22,7 @@ returns-then-mark_of-ne-BLANK c =
     let e = c.in_ok-reach.ensures in
     let mark = ap (λ ys. mark_at ys c.args.sector) (sym c.as_slice.ensures.value) ∙ sym c.mark_of.ensures in
     let r = burn_burnt c.args.self.now c.args.sector c.args.image.now e _ refl (λ z. c.if-mark_of-ne-BLANK.true (sym mark ∙ z)) in
-    record { answer = ap Err c.in_medium.ensures ∙ r.0; after = r.1; cell = record { bytes = r.2; same_flaws = refl; same_count = refl }; untouched = λ x h. refl }
+    record { answer = ap Err c.refuses.ensures ∙ r.0; after = r.1; cell = record { bytes = r.2; same_flaws = refl; same_count = refl }; untouched = λ x h. refl }
 
 -- the memory once the cell is filled
 filled : (v : Vec ℕ Global) (ws ys : List ℕ) (p i : ℕ) (image : List ℕ) → length (vec_items v) ≡ 525 * p → i < p → length image ≡ 524 → ys ≡ vec_items v → ws ≡ with_image ys i image → vec_items (with_items v ws) ≡ with_image (vec_items v) i image

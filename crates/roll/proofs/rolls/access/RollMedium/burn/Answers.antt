@@ -28,7 +28,7 @@ returns-then-index c =
     let m = c.args.self.now in
     let r = burn_burnt m c.args.sector c.args.image.now c.in_ok-reach.ensures c.index.result.now c.index.ensures _ refl c.if-index.true in
     record {
-      answer = ap Err c.in_medium.ensures ∙ r.0;
+      answer = ap Err c.refuses.ensures ∙ r.0;
       after = r.1;
       untouched = λ x h. refl;
       slot = record { first_unused = (m.within, m.numbered, m.distinct, m.unused); bytes = r.2; same_count = refl };
