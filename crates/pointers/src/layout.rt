@@ -3,8 +3,6 @@
 // The most spares that a layout may have, of all its groups and of the secondary area together.
 pub const MOST_SPARES: u32 = 1024;
 
-pub(crate) const MOST_GROUPS: u32 = 65_535;
-
 pub const SECTORS_A_TRACK: u32 = 31;
 
 // How many tracks a medium of this format may have.
@@ -24,11 +22,13 @@ pub(crate) const COPIES_BEFORE_LAST: u32 = 2;
 // How the sectors of a medium are divided; whether it keeps the rules is another matter.
 #[derive(Clone, Copy, PartialEq, Eq, Debug)]
 pub struct Layout {
-    pub groups: u32,
+    // two bytes of the sheet, and so never more than the rules allow
+    pub groups: u16,
     // of each group
     pub homes: u32,
     pub spares: u32,
-    // the first track of the secondary area, and how many spares that has
+    // The first track of the secondary area, and how many spares that has. No `Option` of the two: a sheet may hold any pair,
+    // and what is written gives the same bytes back.
     pub start: u32,
     pub secondary: u32,
 }

@@ -13,4 +13,4 @@ pub use areas::{Area, Purpose};
 pub use layout::{Layout, MOST_SPARES, SECTORS_A_TRACK};
 pub use pointers::Pointers;
 pub use pointers::reading::fits_format;
-pub use sheet::SHEET_BYTES;
+pub use sheet::{SHEET_BYTES, Sheet};

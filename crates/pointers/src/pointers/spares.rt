@@ -4,39 +4,8 @@ ghost use mathlib.Core.List.{Memᴰ};
 ghost use Rattle.pointers.specs.Places.{blocks, data_start, width};
 ghost use Rattle.pointers.specs.Spares.{MayReplace, SparesListed, all_spares, group_spares, is_home, is_secondary, may_replace, spares_of};
 
-use crate::layout::FIRST_FREE_TRACK;
+use crate::layout::{FIRST_FREE_TRACK, SECTORS_A_TRACK};
 use crate::pointers::Pointers;
-use crate::tracks::start_of;
-
-// How many spares there are of all groups, and secondary ones, together.
-fn count_all(groups: u32, spares: u32, secondary: u32) -> u32
-    requires { groups * spares + secondary ≤ 1024 }
-    ensures { result ≡ groups * spares + secondary }
-{
-    groups * spares + secondary
-}
-
-// The group of a block.
-fn group_of(homes: u32, block: u32) -> u32
-    requires { 1 ≤ homes }
-    ensures { result ≡ block / homes }
-{
-    block / homes
-}
-
-// Whether the spare that is tried after so many others is one of the block's group: those come first.
-fn is_own(spares: u32, index: u32) -> bool
-    ensures { result ≡ nat_lt index spares }
-{
-    index < spares
-}
-
-// Whether a spare may stand for a sector, by what is known of the two and of their groups.
-fn may_stand(home: bool, secondary: bool, of_spare: u32, of_sector: u32) -> bool
-    ensures { result ≡ (home && (secondary || nat_eq of_spare of_sector)) }
-{
-    home & (secondary | (of_spare == of_sector))
-}
 
 impl Pointers {
     // How many sectors the medium has.
@@ -68,25 +37,22 @@ impl Pointers {
         requires { place < self.now.layout.secondary }
         ensures { result ≡ 31 * self.now.layout.start + place }
     {
-        start_of(self.layout.start) + place
+        SECTORS_A_TRACK * self.layout.start + place
     }
 
+    // How many spares the groups have together.
+    fn primary_count(&self) -> u32
+        ensures { result ≡ self.now.layout.groups * self.now.layout.spares }
+    {
+        u32::from(self.layout.groups) * self.layout.spares
+    }
+
+    #[tactic(auto, using(crate::proofs::Spared::length_all_spares))]
     pub fn spare_count(&self) -> u32
         ensures count { result ≡ length (all_spares self.now.layout) }
         ensures listed { SparesListed self.now.layout }
     {
-        count_all(
-            self.layout.groups,
-            self.layout.spares,
-            self.layout.secondary,
-        )
-    }
-
-    // Whether the secondary area comes before the groups.
-    fn is_secondary_first(&self) -> bool
-        ensures { result ≡ (self.now.layout.start == 3) }
-    {
-        self.layout.start == FIRST_FREE_TRACK
+        self.primary_count() + self.layout.secondary
     }
 
     // A spare by its place among all of them.
@@ -94,9 +60,9 @@ impl Pointers {
         requires { index < length (all_spares self.now.layout) }
         ensures { result ≡ slice_index (all_spares self.now.layout) index }
     {
-        let primary = self.layout.groups * self.layout.spares;
+        let primary = self.primary_count();
         let secondary = self.layout.secondary;
-        if self.is_secondary_first() {
+        if self.layout.start == FIRST_FREE_TRACK {
             if index < secondary {
                 return self.secondary(index);
             }
@@ -121,46 +87,49 @@ impl Pointers {
         ensures { result ≡ slice_index (spares_of self.now.layout block) index }
     {
         let spares = self.layout.spares;
-        if is_own(spares, index) {
-            return self.primary(group_of(self.layout.homes, block), index);
+        if index < spares {
+            return self.primary(block / self.layout.homes, index);
         }
         self.secondary(index - spares)
     }
 
+    #[tactic(auto, unfolding(crate::specs::Spares::is_home))]
     fn is_home(&self, sector: u32) -> bool
         ensures { result ≡ is_home self.now.layout sector }
     {
-        let start = self.layout.data_start();
-        let width = self.layout.homes + self.layout.spares;
+        let start = self.data_start();
+        let width = self.width();
         let offset = sector.saturating_sub(start);
-        (start <= sector)
-            & ((offset / width < self.layout.groups) & (offset % width < self.layout.homes))
+        start <= sector
+            && offset / width < u32::from(self.layout.groups)
+            && offset % width < self.layout.homes
     }
 
+    #[tactic(auto, unfolding(crate::specs::Spares::is_secondary))]
     fn is_secondary(&self, sector: u32) -> bool
         ensures { result ≡ is_secondary self.now.layout sector }
     {
         if self.layout.secondary == 0 {
             return false;
         }
-        let start = start_of(self.layout.start);
-        (start <= sector) & (sector < start + self.layout.secondary)
+        let start = SECTORS_A_TRACK * self.layout.start;
+        start <= sector && sector < start + self.layout.secondary
     }
 
     // The group in whose part of the data zone the sector lies.
     fn group_at(&self, sector: u32) -> u32
         ensures { result ≡ (sector - data_start self.now.layout) / width self.now.layout }
     {
-        sector.saturating_sub(self.layout.data_start()) / (self.layout.homes + self.layout.spares)
+        sector.saturating_sub(self.data_start()) / self.width()
     }
 
     // Whether the spare may stand for the sector: a home, and one of its own group unless it is a secondary spare.
+    #[tactic(auto, unfolding(crate::specs::Spares::may_replace))]
     pub fn may_replace(&self, spare: u32, sector: u32) -> bool
         ensures answer { result ≡ may_replace self.now.layout spare sector }
         ensures meaning { Memᴰ spare (all_spares self.now.layout) → Decides result (MayReplace self.now.layout spare sector) }
     {
-        let home = self.is_home(sector);
-        let secondary = self.is_secondary(spare);
-        may_stand(home, secondary, self.group_at(spare), self.group_at(sector))
+        self.is_home(sector)
+            && (self.is_secondary(spare) || self.group_at(spare) == self.group_at(sector))
     }
 }
