@@ -52,11 +52,7 @@ impl Pointers {
     }
 
     // The sector in which a block comes to lie, if that is sound.
-    #[tactic(
-        auto,
-        using(crate::proofs::Geometry::home_below),
-        unfolding(crate::specs::Places::home)
-    )]
+    #[tactic(auto, using(crate::proofs::Geometry::home_below), unfolding(crate::specs::Places::home))]
     pub fn home_of(&self, block: u32) -> u32
         requires { block < blocks self.now.layout }
         ensures { result ≡ home self.now.layout block }

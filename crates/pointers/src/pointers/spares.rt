@@ -2,7 +2,7 @@
 ghost use Rattle.std.specs.Prelude.{◌≡◌, ◌+◌, ◌-◌, ◌*◌, ◌/◌, ◌<◌, ◌≤◌, ◌&&◌, ◌||◌, length, Decides, ◌==◌, nat_eq, nat_lt, slice_index};
 ghost use mathlib.Core.List.{Memᴰ};
 ghost use Rattle.pointers.specs.Places.{blocks, data_start, width};
-ghost use Rattle.pointers.specs.Spares.{MayReplace, SparesListed, all_spares, group_spares, is_home, is_secondary, may_replace, spares_of};
+ghost use Rattle.pointers.specs.Spares.{MayReplace, SparesListed, all_spares, group_spares, is_home, is_secondary, may_replace, serves, spares_of};
 
 use crate::layout::{FIRST_FREE_TRACK, SECTORS_A_TRACK};
 use crate::pointers::Pointers;
@@ -56,6 +56,7 @@ impl Pointers {
     }
 
     // A spare by its place among all of them.
+    #[tactic(auto, using(crate::proofs::Spared::length_all_spares, crate::proofs::Spared::get_or_front_secondary, crate::proofs::Spared::get_or_front_group, crate::proofs::Spared::get_or_behind_group, crate::proofs::Spared::get_or_behind_secondary,))]
     pub fn spare(&self, index: u32) -> u32
         requires { index < length (all_spares self.now.layout) }
         ensures { result ≡ slice_index (all_spares self.now.layout) index }
@@ -82,6 +83,7 @@ impl Pointers {
     }
 
     // The spare that is tried for a block after so many others.
+    #[tactic(auto, using(crate::proofs::Geometry::group_of_block, crate::proofs::Spared::get_or_own, crate::proofs::Spared::get_or_shared,))]
     pub fn candidate(&self, block: u32, index: u32) -> u32
         requires { (block < blocks self.now.layout) × (index < self.now.layout.spares + self.now.layout.secondary) }
         ensures { result ≡ slice_index (spares_of self.now.layout block) index }
@@ -123,13 +125,19 @@ impl Pointers {
         sector.saturating_sub(self.data_start()) / self.width()
     }
 
+    // Whether the spare is one of all groups, or lies in the sector's.
+    fn serves(&self, spare: u32, sector: u32) -> bool
+        ensures { result ≡ serves self.now.layout spare sector }
+    {
+        self.is_secondary(spare) || self.group_at(spare) == self.group_at(sector)
+    }
+
     // Whether the spare may stand for the sector: a home, and one of its own group unless it is a secondary spare.
     #[tactic(auto, unfolding(crate::specs::Spares::may_replace))]
     pub fn may_replace(&self, spare: u32, sector: u32) -> bool
         ensures answer { result ≡ may_replace self.now.layout spare sector }
         ensures meaning { Memᴰ spare (all_spares self.now.layout) → Decides result (MayReplace self.now.layout spare sector) }
     {
-        self.is_home(sector)
-            && (self.is_secondary(spare) || self.group_at(spare) == self.group_at(sector))
+        self.is_home(sector) && self.serves(spare, sector)
     }
 }
