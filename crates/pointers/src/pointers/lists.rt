@@ -1,11 +1,9 @@
 // The lists of spares, gone through one after another.
 ghost use Rattle.std.specs.Prelude.{◌≡◌, ◌<◌};
 ghost use Rattle.std.specs.Iterator.{YieldsFirst, item_count};
-ghost use Rattle.pointers.specs.Places.{blocks, primaries, secondaries};
-ghost use Rattle.pointers.specs.Ranges.{in_range};
+ghost use Rattle.pointers.specs.Places.{blocks};
 ghost use Rattle.pointers.specs.Spares.{SparesListed, all_spares, spares_of};
 
-use crate::layout::SECTORS_A_TRACK;
 use crate::pointers::Pointers;
 use std::marker::Model;
 use std::ops::Range;
@@ -65,6 +63,7 @@ impl Iterator for Candidates {
 
     ghost remaining = { item_count (λ rest. rest) };
 
+    #[tactic(auto, using(crate::proofs::Members::range_first, crate::proofs::Members::range_done))]
     fn next(&mut self) -> Option<u32> {
         match self.own.next() {
             Some(spare) => Some(spare),
@@ -83,26 +82,6 @@ impl Pointers {
             geometry: self,
             places: 0..self.spare_count(),
         }
-    }
-
-    // The spares of a group.
-    fn primaries(&self, group: u32) -> Range<u32>
-        requires { group < self.now.layout.groups }
-        ensures { in_range result ≡ primaries self.now.layout group }
-    {
-        let start = self.group_start(group) + self.layout.homes;
-        start..start + self.layout.spares
-    }
-
-    // The secondary spares.
-    fn secondaries(&self) -> Range<u32>
-        ensures { in_range result ≡ secondaries self.now.layout }
-    {
-        if self.layout.secondary == 0 {
-            return 0..0;
-        }
-        let start = SECTORS_A_TRACK * self.layout.start;
-        start..start + self.layout.secondary
     }
 
     // The spares that come into question for a block, in the order in which they are tried.

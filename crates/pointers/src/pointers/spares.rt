@@ -1,11 +1,13 @@
 // The spares of a layout: which come into question for a block, and all of them in rising order.
-ghost use Rattle.std.specs.Prelude.{◌≡◌, ◌+◌, ◌-◌, ◌*◌, ◌/◌, ◌<◌, ◌≤◌, ◌&&◌, ◌||◌, length, Decides, ◌==◌, nat_eq, nat_lt, slice_index};
+ghost use Rattle.std.specs.Prelude.{◌≡◌, ℕ, ◌+◌, ◌-◌, ◌*◌, ◌/◌, ◌<◌, ◌≤◌, ◌&&◌, length, Decides, ◌==◌, nat_le, nat_lt, slice_index};
 ghost use mathlib.Core.List.{Memᴰ};
-ghost use Rattle.pointers.specs.Places.{blocks, data_start, width};
+ghost use Rattle.pointers.specs.Places.{blocks, data_start, primaries, secondaries, width};
+ghost use Rattle.pointers.specs.Ranges.{in_range};
 ghost use Rattle.pointers.specs.Spares.{MayReplace, SparesListed, all_spares, group_spares, is_home, is_secondary, may_replace, serves, spares_of};
 
 use crate::layout::{FIRST_FREE_TRACK, SECTORS_A_TRACK};
 use crate::pointers::Pointers;
+use std::ops::Range;
 
 impl Pointers {
     // How many sectors the medium has.
@@ -38,6 +40,27 @@ impl Pointers {
         ensures { result ≡ 31 * self.now.layout.start + place }
     {
         SECTORS_A_TRACK * self.layout.start + place
+    }
+
+    // The spares of a group.
+    pub(crate) fn primaries(&self, group: u32) -> Range<u32>
+        requires { group < self.now.layout.groups }
+        ensures { in_range result ≡ primaries self.now.layout group }
+    {
+        let start = self.group_start(group) + self.layout.homes;
+        start..start + self.layout.spares
+    }
+
+    // The secondary spares.
+    pub(crate) fn secondaries(&self) -> Range<u32>
+        ensures list { in_range result ≡ secondaries self.now.layout }
+        ensures tells { (p : ℕ) → (nat_le result.start p && nat_lt p result.end) ≡ is_secondary self.now.layout p }
+    {
+        if self.layout.secondary == 0 {
+            return 0..0;
+        }
+        let start = SECTORS_A_TRACK * self.layout.start;
+        start..start + self.layout.secondary
     }
 
     // How many spares the groups have together.
@@ -107,15 +130,10 @@ impl Pointers {
             && offset % width < self.layout.homes
     }
 
-    #[tactic(auto, unfolding(crate::specs::Spares::is_secondary))]
     fn is_secondary(&self, sector: u32) -> bool
         ensures { result ≡ is_secondary self.now.layout sector }
     {
-        if self.layout.secondary == 0 {
-            return false;
-        }
-        let start = SECTORS_A_TRACK * self.layout.start;
-        start <= sector && sector < start + self.layout.secondary
+        self.secondaries().contains(&sector)
     }
 
     // The group in whose part of the data zone the sector lies.
