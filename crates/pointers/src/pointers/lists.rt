@@ -90,8 +90,9 @@ impl Pointers {
         requires { block < blocks self.now.layout }
         ensures { result ≡ spares_of self.now.layout block }
     {
+        let group = block / self.layout.homes;
         Candidates {
-            own: self.primaries(block / self.layout.homes),
+            own: self.primaries(group),
             shared: self.secondaries(),
         }
     }
