@@ -63,7 +63,7 @@ impl Iterator for Candidates {
 
     ghost remaining = { item_count (λ rest. rest) };
 
-    #[tactic(auto, using(crate::proofs::Members::range_first, crate::proofs::Members::range_done))]
+    #[tactic(auto, using(crate::proofs::Turns::range_first, crate::proofs::Turns::range_done))]
     fn next(&mut self) -> Option<u32> {
         match self.own.next() {
             Some(spare) => Some(spare),

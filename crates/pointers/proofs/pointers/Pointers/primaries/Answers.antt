@@ -1,6 +1,6 @@
 use Rattle.std.proofs.Common.{arith, ap, refl, ◌∙◌}
 use Rattle.pointers.proofs.Geometry.{group_below}
-use Rattle.pointers.proofs.Members.{in_range_run}
+use Rattle.pointers.proofs.Turns.{in_range_run}
 use Rattle.pointers.specs.Places.{primaries, run}
 use Rattle.pointers.proofs.pointers.Pointers.primaries.Goals as goal
 

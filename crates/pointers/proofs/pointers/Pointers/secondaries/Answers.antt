@@ -1,7 +1,7 @@
 use Rattle.std.proofs.Common.{arith, ap, sym, refl, ◌*◌}
 use Rattle.pointers.proofs.Listing.{start_held}
 use Rattle.pointers.proofs.Ruled.{rules_held}
-use Rattle.pointers.proofs.Members.{in_range_run}
+use Rattle.pointers.proofs.Turns.{in_range_run}
 use Rattle.pointers.specs.Places.{secondaries, run}
 use Rattle.pointers.specs.Spares.{is_secondary}
 use Rattle.std.proofs.lemmas.Bool.Decides.{nat_tests}
