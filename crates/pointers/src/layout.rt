@@ -27,8 +27,7 @@ pub struct Layout {
     // of each group
     pub homes: u32,
     pub spares: u32,
-    // The first track of the secondary area, and how many spares that has. No `Option` of the two: a sheet may hold any pair,
-    // and what is written gives the same bytes back.
+    // the first track of the secondary area, and how many spares that has: no `Option`, since a sheet may hold any two numbers
     pub start: u32,
     pub secondary: u32,
 }
