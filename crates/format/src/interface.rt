@@ -13,6 +13,8 @@ pub const BLOCK_BYTES: usize = 512;
 
 pub type Block = [u8; BLOCK_BYTES];
 
+pub type Sheet = Block;
+
 // A value of the type is a layout on a medium of some size.
 pub trait Format: Addressing + Sized {
     ghost blocks: { Self → ℕ };
@@ -32,7 +34,7 @@ pub trait Format: Addressing + Sized {
 
     ghost stored: { Self → List Sector → ℕ → List ℕ → List Sector };
 
-    fn initialise<M: Medium>(medium: &mut M, sheet: &Block) -> Result<Self, Fault>
+    fn initialise<M: Medium>(medium: &mut M, sheet: &Sheet) -> Result<Self, Fault>
         ensures answer { result ≡ initialising (M.Medium.sectors medium.old) sheet.now }
         ensures after { M.Medium.sectors medium.new ≡ initialised (M.Medium.sectors medium.old) sheet.now };
 

@@ -9,5 +9,5 @@ pub mod sectors;
 
 pub use addressing::{Address, Addressing, LAST_TRACK, address_of, are_whole_tracks, number_of};
 pub use copies::{burn_copies, find_copy};
-pub use interface::{BLOCK_BYTES, Block, Format};
+pub use interface::{BLOCK_BYTES, Block, Format, Sheet};
 pub use sectors::{burn_blank, read_sound, shows};

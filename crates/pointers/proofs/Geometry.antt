@@ -146,5 +146,15 @@ module _ (n : ℕ) (l : Layout) (f : LayoutRules n l) where
   few_blocks = let high = f.before_copies in omega (arith, mul-add l.groups l.homes l.spares)
 
 -- the same, of a format on its medium
+pub group_of_block : (f : Pointers) (b : ℕ) → b < blocks f.layout → b / f.layout.homes < f.layout.groups
+group_of_block f b h = in_group (last_track f.sectors) f.layout (rules_held f) b h
+
+pub home_below : (f : Pointers) (b : ℕ) → b < blocks f.layout → home f.layout b < 620000
+home_below f b h =
+    let e = home_bounds (last_track f.sectors) f.layout (rules_held f) b h in
+    let high = (rules_held f).before_copies in
+    let most = (size_held f).most in
+    omega arith
+
 pub group_below : (f : Pointers) (a : ℕ) → a < f.layout.groups → (data_start f.layout + (a * width f.layout + width f.layout) ≤ 31 * (last_track f.sectors - 2)) × (last_track f.sectors ≤ 19999)
 group_below f a h = (group_end (last_track f.sectors) f.layout (rules_held f) a h, (size_held f).most)

@@ -5,3 +5,4 @@ pub mod Spared
 pub mod Written
 pub mod Answered
 pub mod Listing
+pub mod Turns

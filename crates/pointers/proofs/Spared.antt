@@ -7,7 +7,12 @@ use Rattle.pointers.proofs.Geometry.{area_at, group_at, home_at, home_bounds, ho
 use Rattle.pointers.specs.Places.{Spare, blocks, data_start, groups_end, home, primaries, secondaries, width}
 use Rattle.pointers.specs.Rules.{LayoutRules}
 use Rattle.pointers.specs.Spares.{MayReplace, SparesListed, TriedBefore, all_spares, group_spares, is_home, is_secondary, may_replace, spares_of}
+use Rattle.pointers.proofs.Ruled.{rules_held}
+use Rattle.pointers.specs.Rules.{last_track}
 use Rattle.pointers.specs.declared.layout.Layout.{Layout}
+use Rattle.pointers.specs.declared.pointers.Pointers.{Pointers}
+use Rattle.std.specs.Prelude.{Decides, Bool}
+use Rattle.std.proofs.lemmas.Bool.Decides.{Decides-at}
 use Rattle.std.proofs.lemmas.Nat.{div-add-mod', div_below, div-mul-add, mod_below, mod-mul-add, mul-add-lt, mul-le}
 use Rattle.std.proofs.lemmas.List.{append_assoc, get_or_append_left, get_or-append_right, length-append}
 use Rattle.std.proofs.lemmas.Bool.{and_from, and_parts, cases_eq, cond-false, cond-true, eq-eqb, eqb-true, le-leb, leb-true, lt-ltb, ltb-true, ne_eqb, or_cases, or_left, or_right}
@@ -246,6 +251,13 @@ module _ (n : ℕ) (l : Layout) (f : LayoutRules n l) where
       (r.0, r.1, r.2, mathlib.Core.List.Memᴰ.append_left (secondaries l) (subst (λ a. Memᴰ p (primaries l a)) k u.2)) in
       ⊎_elim (λ v. second (secondary_in l p v)) (λ v. own (eqb-true _ _ v)) (or_cases (is_secondary l p) same x.1) in
       ⊎_elim first second (listed_spare l p m)
+
+-- the same, of a format on its medium
+pub may_means : (f : Pointers) (p h : ℕ) (r : Bool) → r ≡ may_replace f.layout p h → Memᴰ p (all_spares f.layout) → Decides r (MayReplace f.layout p h)
+may_means f p h r e m =
+    let n = last_track f.sectors in
+    let k = rules_held f in
+    Decides-at _ _ e (may_only n f.layout k p h m, may_from n f.layout k p h)
 
 -- q comes before p where two climbing lists are joined
 abbrev Before : List ℕ → List ℕ → ℕ → ℕ → Type 0

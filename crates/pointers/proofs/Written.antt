@@ -6,7 +6,8 @@ use Rattle.pointers.proofs.Ruled.{rules_of, size_held}
 use Rattle.pointers.specs.Places.{first_track}
 use Rattle.pointers.specs.Reading.{sheet_read}
 use Rattle.pointers.specs.Rules.{LayoutRules, SecondaryTracks, last_track, layout_valid}
-use Rattle.pointers.specs.Sheets.{four_bytes, head, layout_in, marked, sheet_of, two_bytes}
+use Rattle.medium.specs.Bytes.{four_bytes}
+use Rattle.pointers.specs.Sheets.{head, layout_in, marked, sheet_of, two_bytes}
 use Rattle.pointers.specs.declared.layout.Layout.{Layout}
 use Rattle.pointers.specs.declared.pointers.Pointers.{Pointers}
 use Rattle.std.proofs.lemmas.Nat.{mul-le}

@@ -1,4 +1,5 @@
 pub mod Places
+pub mod Ranges
 pub mod Spares
 pub mod Rules
 pub mod Sheets

@@ -1,5 +1,6 @@
 -- The sheet of a layout: 512 bytes, the highest byte of each number first.
-use Rattle.std.specs.Prelude.{◌≡◌, ℕ, ◌+◌, ◌*◌, ◌/◌, ◌%◌, Bool, ◌&&◌, List, [], ◌∷◌, ◌++◌, take, drop, replicate, slice_index}
+use Rattle.std.specs.Prelude.{◌≡◌, ℕ, ◌/◌, ◌%◌, Bool, ◌&&◌, List, [], ◌∷◌, ◌++◌, take, drop, replicate}
+use Rattle.medium.specs.Bytes.{four_at, four_bytes, two_at}
 use Rattle.pointers.specs.Places.{first_track}
 use Rattle.pointers.specs.declared.layout.Layout.{Layout}
 use Rattle.std.specs.Str.{bytes_eq}
@@ -7,18 +8,6 @@ use Rattle.std.specs.Str.{bytes_eq}
 -- a number in two bytes
 abbrev pub two_bytes : ℕ → List ℕ
 two_bytes x = (x / 256 % 256) ∷ (x % 256) ∷ []
-
--- a number in four bytes
-abbrev pub four_bytes : ℕ → List ℕ
-four_bytes x = (x / 16777216 % 256) ∷ (x / 65536 % 256) ∷ (x / 256 % 256) ∷ (x % 256) ∷ []
-
--- the number in the two bytes from byte i on
-abbrev pub two_at : List ℕ → ℕ → ℕ
-two_at d i = slice_index d i * 256 + slice_index d (i + 1)
-
--- the number in the four bytes from byte i on
-abbrev pub four_at : List ℕ → ℕ → ℕ
-four_at d i = slice_index d i * 16777216 + slice_index d (i + 1) * 65536 + slice_index d (i + 2) * 256 + slice_index d (i + 3)
 
 -- the layout that the bytes give
 unfoldable pub layout_in : List ℕ → Layout

@@ -38,9 +38,13 @@ is_home l h =
 unfoldable pub is_secondary : Layout → ℕ → Bool
 is_secondary l p = nat_le (31 * l.start) p && nat_lt p (31 * l.start + l.secondary)
 
+-- the test whether spare p serves the group of sector h: a secondary one does, and one of that group
+abbrev pub serves : Layout → ℕ → ℕ → Bool
+serves l p h = is_secondary l p || (p - data_start l) / width l == (h - data_start l) / width l
+
 -- the test whether spare p may stand for h: a home, and of the spare's group unless that is a secondary one
 unfoldable pub may_replace : Layout → ℕ → ℕ → Bool
-may_replace l p h = is_home l h && (is_secondary l p || (p - data_start l) / width l == (h - data_start l) / width l)
+may_replace l p h = is_home l h && serves l p h
 
 -- what the lists are
 pub record SparesListed (l : Layout) : Type 0 where

@@ -5,6 +5,7 @@ ghost use Rattle.pointers.specs.Rules.{fits_format, last_track, layout_valid};
 use crate::layout::Layout;
 
 pub mod listing;
+pub mod lists;
 pub mod places;
 pub mod reading;
 pub mod spares;

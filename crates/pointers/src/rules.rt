@@ -1,13 +1,18 @@
 // The rules that a layout keeps.
-ghost use Rattle.std.specs.Prelude.{◌≡◌, ◌-◌, ◌≤◌, true};
+ghost use Rattle.std.specs.Prelude.{◌≡◌, ◌*◌, ◌^◌, ◌<◌};
 ghost use Rattle.pointers.specs.Places.{data_start, first_track, groups_end};
 ghost use Rattle.pointers.specs.Rules.{counts_valid, groups_valid, layout_valid, secondary_valid};
 
 use crate::layout::{
-    COPIES_BEFORE_LAST, FIRST_FREE_TRACK, Layout, MOST_GROUPS, MOST_SPARES, NO_TRACK,
-    SECTORS_A_TRACK,
+    COPIES_BEFORE_LAST, FIRST_FREE_TRACK, Layout, MOST_SPARES, NO_TRACK, SECTORS_A_TRACK,
 };
-use crate::tracks::start_of;
+
+// The first sector of a track, on however large a medium.
+fn start_of(track: u32) -> u64
+    ensures { result ≡ 31 * track }
+{
+    u64::from(SECTORS_A_TRACK) * u64::from(track)
+}
 
 impl Layout {
     // The first track of the data zone: behind the secondary area, where that comes first.
@@ -24,9 +29,8 @@ impl Layout {
     fn are_counts_valid(&self) -> bool
         ensures { result ≡ counts_valid self.now }
     {
-        let spares = self.groups as u64 * self.spares as u64 + self.secondary as u64;
-        ((1 <= self.groups) & (self.groups <= MOST_GROUPS))
-            & ((1 <= self.homes) & (spares <= MOST_SPARES as u64))
+        let spares = u64::from(self.groups) * u64::from(self.spares) + u64::from(self.secondary);
+        1 <= self.groups && 1 <= self.homes && spares <= u64::from(MOST_SPARES)
     }
 
     // Whether the secondary area is whole tracks, right behind the first copies of the layout or right before the last ones.
@@ -36,53 +40,46 @@ impl Layout {
         if self.secondary == 0 {
             return self.start == NO_TRACK;
         }
-        let behind = self.start as u64
-            + (self.secondary / SECTORS_A_TRACK) as u64
-            + COPIES_BEFORE_LAST as u64;
-        (self.secondary % SECTORS_A_TRACK == 0)
-            & ((self.start == FIRST_FREE_TRACK) | (behind == last as u64))
+        let behind = u64::from(self.start)
+            + u64::from(self.secondary / SECTORS_A_TRACK)
+            + u64::from(COPIES_BEFORE_LAST);
+        self.secondary % SECTORS_A_TRACK == 0
+            && (self.start == FIRST_FREE_TRACK || behind == u64::from(last))
     }
 
     // The first sector of the data zone.
-    pub(crate) fn data_start(&self) -> u32
-        requires { self.now.secondary ≤ 1024 }
-        ensures { result ≡ data_start self.now }
+    #[tactic(auto, unfolding(crate::specs::Places::data_start))]
+    pub(crate) fn data_start(&self) -> u64
+        ensures value { result ≡ data_start self.now }
+        ensures low { result < 2 ^ 37 }
     {
         start_of(self.first_track())
     }
 
     // The first sector behind the groups.
     pub(crate) fn groups_end(&self) -> u64
-        requires { (self.now.groups ≤ 65535) × (self.now.secondary ≤ 1024) }
         ensures { result ≡ groups_end self.now }
     {
-        self.data_start() as u64 + self.groups as u64 * (self.homes as u64 + self.spares as u64)
+        let width = u64::from(self.homes) + u64::from(self.spares);
+        self.data_start() + u64::from(self.groups) * width
     }
 
     // Whether the groups end before the last copies of the layout, and before a secondary area behind them.
     fn are_groups_valid(&self, last: u32) -> bool
-        requires { (counts_valid self.now ≡ true) × ((secondary_valid last self.now ≡ true) × ((2 ≤ last) × (last ≤ 19999))) }
         ensures { result ≡ groups_valid last self.now }
     {
         let end = self.groups_end();
-        let before_copies = end <= start_of(last - COPIES_BEFORE_LAST) as u64;
-        if (self.secondary == 0) | (self.start == FIRST_FREE_TRACK) {
-            return before_copies;
-        }
-        before_copies & (end <= start_of(self.start) as u64)
+        end <= start_of(last.saturating_sub(COPIES_BEFORE_LAST))
+            && (self.secondary == 0
+                || self.start == FIRST_FREE_TRACK
+                || end <= start_of(self.start))
     }
 
     // Whether the layout keeps every rule on a medium with this last track.
+    #[tactic(auto, unfolding(crate::specs::Rules::layout_valid))]
     pub(crate) fn is_valid(&self, last: u32) -> bool
-        requires { (2 ≤ last) × (last ≤ 19999) }
         ensures { result ≡ layout_valid last self.now }
     {
-        if !self.are_counts_valid() {
-            return false;
-        }
-        if !self.is_secondary_valid(last) {
-            return false;
-        }
-        self.are_groups_valid(last)
+        self.are_counts_valid() && self.is_secondary_valid(last) && self.are_groups_valid(last)
     }
 }

@@ -1,12 +1,11 @@
 // The bytes of a layout, read and written.
 ghost use Rattle.std.specs.Prelude.{◌≡◌, ◌+◌, ◌≤◌, ◌++◌, length, take, drop};
 ghost use Rattle.pointers.specs.Places.{first_track};
-ghost use Rattle.pointers.specs.Sheets.{four_at, head, layout_in, marked, sheet_of, two_at};
-ghost use Rattle.std.specs.Str.{bytes_eq};
+ghost use Rattle.pointers.specs.Sheets.{head, layout_in, marked, sheet_of};
 
 use crate::layout::Layout;
-
-pub const SHEET_BYTES: usize = 512;
+use format::{BLOCK_BYTES, Sheet};
+use medium::{four_at, two_at};
 
 // Where the numbers of a layout stand, and the fixed bytes between them.
 const GROUPS: usize = 4;
@@ -32,32 +31,12 @@ fn head(first_track: u8) -> [u8; 4]
     [0x0A, 0x0A, first_track, 0x10]
 }
 
-fn two_at(sheet: &[u8], at: usize) -> u32
-    requires { at + 2 ≤ length sheet.now }
-    ensures { result ≡ two_at sheet.now at }
-{
-    u16::from_be_bytes([sheet[at], sheet[at + 1]]) as u32
-}
-
-fn four_at(sheet: &[u8], at: usize) -> u32
-    requires { at + 4 ≤ length sheet.now }
-    ensures { result ≡ four_at sheet.now at }
-{
-    u32::from_be_bytes([sheet[at], sheet[at + 1], sheet[at + 2], sheet[at + 3]])
-}
-
-fn same_bytes(a: &[u8], b: &[u8]) -> bool
-    ensures { result ≡ bytes_eq a.now b.now }
-{
-    a == b
-}
-
 // Whether the bytes are there that every sheet has.
-pub(crate) fn is_marked(sheet: &[u8], first_track: u8) -> bool
-    requires { length sheet.now ≡ 512 }
+#[tactic(auto, unfolding(crate::specs::Sheets::marked))]
+pub(crate) fn is_marked(sheet: &Sheet, first_track: u8) -> bool
     ensures { result ≡ marked first_track sheet.now }
 {
-    same_bytes(&sheet[0..GROUPS], &head(first_track)) & same_bytes(&sheet[GAP..START], &FILLED_GAP)
+    sheet[..GROUPS] == head(first_track)[..] && sheet[GAP..START] == FILLED_GAP[..]
 }
 
 // Writes a field of the sheet.
@@ -70,8 +49,7 @@ fn put(sheet: &mut [u8], at: usize, field: &[u8])
 
 impl Layout {
     // The layout that the bytes of a sheet give.
-    pub(crate) fn in_sheet(sheet: &[u8]) -> Layout
-        requires { length sheet.now ≡ 512 }
+    pub(crate) fn in_sheet(sheet: &Sheet) -> Layout
         ensures { result ≡ layout_in sheet.now }
     {
         Layout {
@@ -84,13 +62,13 @@ impl Layout {
     }
 
     // The sheet that gives the layout.
-    pub(crate) fn to_sheet(&self) -> [u8; 512]
-        requires { (self.now.groups ≤ 65535) × (first_track self.now ≤ 255) }
+    pub(crate) fn to_sheet(&self) -> Sheet
+        requires { first_track self.now ≤ 255 }
         ensures { result ≡ sheet_of self.now }
     {
-        let mut sheet = [FILLER; SHEET_BYTES];
+        let mut sheet = [FILLER; BLOCK_BYTES];
         put(&mut sheet, 0, &head(self.first_track() as u8));
-        put(&mut sheet, GROUPS, &(self.groups as u16).to_be_bytes());
+        put(&mut sheet, GROUPS, &self.groups.to_be_bytes());
         put(&mut sheet, HOMES, &self.homes.to_be_bytes());
         put(&mut sheet, SPARES, &self.spares.to_be_bytes());
         put(&mut sheet, START, &self.start.to_be_bytes());

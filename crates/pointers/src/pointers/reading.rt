@@ -1,26 +1,25 @@
 // The format on a medium, by the sheet of its layout.
-ghost use Rattle.std.specs.Prelude.{◌≡◌, ◌≤◌, ◌&&◌, length, Ok, MatchResult};
+ghost use Rattle.std.specs.Prelude.{◌≡◌, ◌&&◌, Ok, MatchResult};
 ghost use Rattle.pointers.specs.Places.{first_track};
 ghost use Rattle.pointers.specs.Reading.{SheetRead, SheetRefused, sheet_read};
 ghost use Rattle.pointers.specs.Rules.{fits_format, layout_valid};
 ghost use Rattle.pointers.specs.Sheets.{marked, sheet_of};
 
-use crate::layout::{LEAST_TRACKS, Layout, MOST_TRACKS, SECTORS_A_TRACK};
+use crate::layout::{LEAST_TRACKS, Layout, SECTORS_A_TRACK};
 use crate::pointers::Pointers;
 use crate::sheet::is_marked;
+use format::{Sheet, are_whole_tracks};
 use medium::{Fault, Layer, Refusal};
 
 // Whether a medium of so many sectors fits the format: whole tracks, neither too few nor too many.
 pub fn fits_format(sectors: u32) -> bool
     ensures { result ≡ fits_format sectors }
 {
-    (sectors % SECTORS_A_TRACK == 0)
-        & ((LEAST_TRACKS * SECTORS_A_TRACK <= sectors) & (sectors <= MOST_TRACKS * SECTORS_A_TRACK))
+    are_whole_tracks::<Pointers>(sectors, LEAST_TRACKS)
 }
 
 // Whether the layout that was read keeps the rules, and the bytes around it are as in every sheet.
-fn stands(layout: &Layout, last: u32, sheet: &[u8]) -> bool
-    requires { (length sheet.now ≡ 512) × ((2 ≤ last) × (last ≤ 19999)) }
+fn stands(layout: &Layout, last: u32, sheet: &Sheet) -> bool
     ensures { result ≡ (layout_valid last layout.now && marked (first_track layout.now) sheet.now) }
 {
     layout.is_valid(last) && is_marked(sheet, layout.first_track() as u8)
@@ -28,8 +27,7 @@ fn stands(layout: &Layout, last: u32, sheet: &[u8]) -> bool
 
 impl Pointers {
     // Reads the sheet of a layout for a medium of so many sectors.
-    pub fn read(sectors: u32, sheet: &[u8]) -> Result<Pointers, Fault>
-        requires { length sheet.now ≡ 512 }
+    pub fn read(sectors: u32, sheet: &Sheet) -> Result<Pointers, Fault>
         ensures answer { result ≡ sheet_read sectors sheet.now }
         ensures meaning { MatchResult result (SheetRead sectors sheet.now) (SheetRefused sectors sheet.now) }
     {
@@ -45,7 +43,7 @@ impl Pointers {
     }
 
     // The sheet of the layout; read for a medium of the same size, it gives the same again.
-    pub fn write(&self) -> [u8; 512]
+    pub fn write(&self) -> Sheet
         ensures bytes { result ≡ sheet_of self.now.layout }
         ensures back { sheet_read self.now.sectors result ≡ Ok self.now }
     {

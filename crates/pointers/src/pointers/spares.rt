@@ -1,42 +1,13 @@
 // The spares of a layout: which come into question for a block, and all of them in rising order.
-ghost use Rattle.std.specs.Prelude.{◌≡◌, ◌+◌, ◌-◌, ◌*◌, ◌/◌, ◌<◌, ◌≤◌, ◌&&◌, ◌||◌, length, Decides, ◌==◌, nat_eq, nat_lt, slice_index};
+ghost use Rattle.std.specs.Prelude.{◌≡◌, ℕ, ◌+◌, ◌-◌, ◌*◌, ◌/◌, ◌<◌, ◌≤◌, ◌&&◌, length, Decides, ◌==◌, nat_le, nat_lt, slice_index};
 ghost use mathlib.Core.List.{Memᴰ};
-ghost use Rattle.pointers.specs.Places.{blocks, data_start, width};
-ghost use Rattle.pointers.specs.Spares.{MayReplace, SparesListed, all_spares, group_spares, is_home, is_secondary, may_replace, spares_of};
+ghost use Rattle.pointers.specs.Places.{blocks, data_start, primaries, secondaries, width};
+ghost use Rattle.pointers.specs.Ranges.{in_range};
+ghost use Rattle.pointers.specs.Spares.{MayReplace, SparesListed, all_spares, group_spares, is_home, is_secondary, may_replace, serves, spares_of};
 
-use crate::layout::FIRST_FREE_TRACK;
+use crate::layout::{FIRST_FREE_TRACK, SECTORS_A_TRACK};
 use crate::pointers::Pointers;
-use crate::tracks::start_of;
-
-// How many spares there are of all groups, and secondary ones, together.
-fn count_all(groups: u32, spares: u32, secondary: u32) -> u32
-    requires { groups * spares + secondary ≤ 1024 }
-    ensures { result ≡ groups * spares + secondary }
-{
-    groups * spares + secondary
-}
-
-// The group of a block.
-fn group_of(homes: u32, block: u32) -> u32
-    requires { 1 ≤ homes }
-    ensures { result ≡ block / homes }
-{
-    block / homes
-}
-
-// Whether the spare that is tried after so many others is one of the block's group: those come first.
-fn is_own(spares: u32, index: u32) -> bool
-    ensures { result ≡ nat_lt index spares }
-{
-    index < spares
-}
-
-// Whether a spare may stand for a sector, by what is known of the two and of their groups.
-fn may_stand(home: bool, secondary: bool, of_spare: u32, of_sector: u32) -> bool
-    ensures { result ≡ (home && (secondary || nat_eq of_spare of_sector)) }
-{
-    home & (secondary | (of_spare == of_sector))
-}
+use std::ops::Range;
 
 impl Pointers {
     // How many sectors the medium has.
@@ -68,35 +39,54 @@ impl Pointers {
         requires { place < self.now.layout.secondary }
         ensures { result ≡ 31 * self.now.layout.start + place }
     {
-        start_of(self.layout.start) + place
+        SECTORS_A_TRACK * self.layout.start + place
     }
 
+    // The spares of a group.
+    pub(crate) fn primaries(&self, group: u32) -> Range<u32>
+        requires { group < self.now.layout.groups }
+        ensures { in_range result ≡ primaries self.now.layout group }
+    {
+        let start = self.group_start(group) + self.layout.homes;
+        start..start + self.layout.spares
+    }
+
+    // The secondary spares.
+    pub(crate) fn secondaries(&self) -> Range<u32>
+        ensures list { in_range result ≡ secondaries self.now.layout }
+        ensures tells { (p : ℕ) → (nat_le result.start p && nat_lt p result.end) ≡ is_secondary self.now.layout p }
+    {
+        if self.layout.secondary == 0 {
+            return 0..0;
+        }
+        let start = SECTORS_A_TRACK * self.layout.start;
+        start..start + self.layout.secondary
+    }
+
+    // How many spares the groups have together.
+    fn primary_count(&self) -> u32
+        ensures { result ≡ self.now.layout.groups * self.now.layout.spares }
+    {
+        u32::from(self.layout.groups) * self.layout.spares
+    }
+
+    #[tactic(auto, using(crate::proofs::Spared::length_all_spares))]
     pub fn spare_count(&self) -> u32
         ensures count { result ≡ length (all_spares self.now.layout) }
         ensures listed { SparesListed self.now.layout }
     {
-        count_all(
-            self.layout.groups,
-            self.layout.spares,
-            self.layout.secondary,
-        )
-    }
-
-    // Whether the secondary area comes before the groups.
-    fn is_secondary_first(&self) -> bool
-        ensures { result ≡ (self.now.layout.start == 3) }
-    {
-        self.layout.start == FIRST_FREE_TRACK
+        self.primary_count() + self.layout.secondary
     }
 
     // A spare by its place among all of them.
+    #[tactic(auto, using(crate::proofs::Spared::length_all_spares, crate::proofs::Spared::get_or_front_secondary, crate::proofs::Spared::get_or_front_group, crate::proofs::Spared::get_or_behind_group, crate::proofs::Spared::get_or_behind_secondary,))]
     pub fn spare(&self, index: u32) -> u32
         requires { index < length (all_spares self.now.layout) }
         ensures { result ≡ slice_index (all_spares self.now.layout) index }
     {
-        let primary = self.layout.groups * self.layout.spares;
+        let primary = self.primary_count();
         let secondary = self.layout.secondary;
-        if self.is_secondary_first() {
+        if self.layout.start == FIRST_FREE_TRACK {
             if index < secondary {
                 return self.secondary(index);
             }
@@ -116,51 +106,56 @@ impl Pointers {
     }
 
     // The spare that is tried for a block after so many others.
+    #[tactic(auto, using(crate::proofs::Geometry::group_of_block, crate::proofs::Spared::get_or_own, crate::proofs::Spared::get_or_shared,))]
     pub fn candidate(&self, block: u32, index: u32) -> u32
         requires { (block < blocks self.now.layout) × (index < self.now.layout.spares + self.now.layout.secondary) }
         ensures { result ≡ slice_index (spares_of self.now.layout block) index }
     {
         let spares = self.layout.spares;
-        if is_own(spares, index) {
-            return self.primary(group_of(self.layout.homes, block), index);
+        if index < spares {
+            return self.primary(block / self.layout.homes, index);
         }
         self.secondary(index - spares)
     }
 
+    #[tactic(auto, unfolding(crate::specs::Spares::is_home))]
     fn is_home(&self, sector: u32) -> bool
         ensures { result ≡ is_home self.now.layout sector }
     {
-        let start = self.layout.data_start();
-        let width = self.layout.homes + self.layout.spares;
+        let start = self.data_start();
+        let width = self.width();
         let offset = sector.saturating_sub(start);
-        (start <= sector)
-            & ((offset / width < self.layout.groups) & (offset % width < self.layout.homes))
+        start <= sector
+            && offset / width < u32::from(self.layout.groups)
+            && offset % width < self.layout.homes
     }
 
     fn is_secondary(&self, sector: u32) -> bool
         ensures { result ≡ is_secondary self.now.layout sector }
     {
-        if self.layout.secondary == 0 {
-            return false;
-        }
-        let start = start_of(self.layout.start);
-        (start <= sector) & (sector < start + self.layout.secondary)
+        self.secondaries().contains(&sector)
     }
 
     // The group in whose part of the data zone the sector lies.
     fn group_at(&self, sector: u32) -> u32
         ensures { result ≡ (sector - data_start self.now.layout) / width self.now.layout }
     {
-        sector.saturating_sub(self.layout.data_start()) / (self.layout.homes + self.layout.spares)
+        sector.saturating_sub(self.data_start()) / self.width()
+    }
+
+    // Whether the spare is one of all groups, or lies in the sector's.
+    fn serves(&self, spare: u32, sector: u32) -> bool
+        ensures { result ≡ serves self.now.layout spare sector }
+    {
+        self.is_secondary(spare) || self.group_at(spare) == self.group_at(sector)
     }
 
     // Whether the spare may stand for the sector: a home, and one of its own group unless it is a secondary spare.
+    #[tactic(auto, unfolding(crate::specs::Spares::may_replace))]
     pub fn may_replace(&self, spare: u32, sector: u32) -> bool
         ensures answer { result ≡ may_replace self.now.layout spare sector }
         ensures meaning { Memᴰ spare (all_spares self.now.layout) → Decides result (MayReplace self.now.layout spare sector) }
     {
-        let home = self.is_home(sector);
-        let secondary = self.is_secondary(spare);
-        may_stand(home, secondary, self.group_at(spare), self.group_at(sector))
+        self.is_home(sector) && self.serves(spare, sector)
     }
 }

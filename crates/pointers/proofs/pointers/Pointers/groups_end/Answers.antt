@@ -2,12 +2,6 @@ use Rattle.std.proofs.Common.{arith}
 use Rattle.pointers.proofs.Ruled.{rules_held, size_held}
 use Rattle.pointers.proofs.pointers.Pointers.groups_end.Goals as goal
 
-pub groups_end-requires : goal.groups_end-requires
-groups_end-requires c =
-    let p = c.args.self.now in
-    let r = rules_held p in
-    (r.most_groups, omega (arith, r.most_spares))
-
 pub overflow_cast-result : goal.overflow_cast-result
 overflow_cast-result c =
     let p = c.args.self.now in

@@ -1,5 +1,6 @@
-use Rattle.pointers.proofs.Listing.{not_front, start_held}
+use Rattle.std.proofs.Common.{arith}
+use Rattle.pointers.proofs.Listing.{start_held}
 use Rattle.pointers.proofs.pointers.Pointers.zone_end.Goals as goal
 
-pub start_of-requires-2 : goal.start_of-requires-2
-start_of-requires-2 c = let p = c.args.self.now in start_held p (not_front p.layout c.if-self.false).0
+pub overflow_mul-result : goal.overflow_mul-result
+overflow_mul-result c = let h = start_held c.args.self.now c.if-self-eq0.false in omega arith
