@@ -71,7 +71,7 @@ module _ (p : Plate) (i : ℕ) (image : List ℕ) where
           let at = blank_at xs (vec_items p.flaws) p.count i inside mark w flawed in (
             burning_as s p.count i image row e _ at,
             ap (λ ys. plate_sectors ys (vec_items p.flaws) p.count) k
-                ∙ plate_burnt xs (vec_items p.flaws) p.count i image p.sized inside (whole_image p.count i (length image) e)
+                ∙ plate_burnt xs (vec_items p.flaws) p.count i image p.openable.0.2 inside (whole_image p.count i (length image) e)
                 ∙ sectors_as s p.count i image row e _ at,
             k ∙ bytes_as true (eq-eqb (mark_at xs i) 0 mark),
           )

@@ -8,7 +8,7 @@ use Rattle.plate.specs.Covering.{covered_decides}
 use Rattle.plate.specs.Filled.{mark_with_image, other_mark, other_state, state_with_image}
 use Rattle.plate.specs.Cells.{Marked, image_at, mark_at, state_at, with_image}
 use Rattle.plate.specs.Flaws.{Covered, covered}
-use Rattle.plate.specs.Plates.{PlateMeans, plate_sector, plate_sectors}
+use Rattle.plate.specs.Plates.{PlateMeans, PlateSized, plate_sector, plate_sectors}
 use Rattle.plate.specs.declared.flaws.Flaw.{Flaw}
 use Rattle.std.proofs.lemmas.List.{length-take, length-drop}
 use Rattle.std.proofs.lemmas.Bool.{cases_eq, cond_both, ne_eqb}
@@ -34,8 +34,8 @@ module _ (xs : List ℕ) (fs : List Flaw) (p : ℕ) where
       cond_both (mark_at xs i == 0) blank (burnt (image_at xs i)) Whole (λ _. tt)
       (λ _. omega (arith, length-take 524 (drop (525 * i + 1) xs), length-drop (525 * i + 1) xs))
 
-  pub plate_lawful : 1 ≤ p → p ≤ 640064 → length xs ≡ 525 * p → Lawful (plate_sectors xs fs p)
-  plate_lawful some few sized = row_lawful (plate_sector xs fs) p some few (λ i h. whole_at i h sized)
+  pub plate_lawful : PlateSized (length xs) p → Lawful (plate_sectors xs fs p)
+  plate_lawful h = row_lawful (plate_sector xs fs) p h.0 h.1 (λ i l. whole_at i l h.2)
 
   pub plate_means : PlateMeans xs fs p (plate_sectors xs fs p)
   plate_means =

@@ -17,11 +17,11 @@ returns-in_err-reach c =
     let r = burn_refused c.args.self.now c.args.sector c.args.image.now c.in_err-reach.field-0.0 c.in_err-reach.ensures in
     record { answer = out.1 ∙ ap Err out.2 ∙ r.0; after = r.1; cell = record { bytes = r.2; same_flaws = refl; same_count = refl }; untouched = λ x h. refl }
 
-pub returns-then-mark_of-ne-BLANK : goal.returns-then-mark_of-ne-BLANK
-returns-then-mark_of-ne-BLANK c =
+pub returns-then-mark-ne-BLANK : goal.returns-then-mark-ne-BLANK
+returns-then-mark-ne-BLANK c =
     let e = c.in_ok-reach.ensures in
-    let mark = ap (λ ys. mark_at ys c.args.sector) (sym c.as_slice.ensures.value) ∙ sym c.mark_of.ensures in
-    let r = burn_burnt c.args.self.now c.args.sector c.args.image.now e _ refl (λ z. c.if-mark_of-ne-BLANK.true (sym mark ∙ z)) in
+    let mark = ap (λ ys. mark_at ys c.args.sector) (sym c.as_slice.ensures.value) ∙ sym c.cell_of-mark.ensures.mark in
+    let r = burn_burnt c.args.self.now c.args.sector c.args.image.now e _ refl (λ z. c.if-mark-ne-BLANK.true (sym mark ∙ z)) in
     record { answer = ap Err c.in_medium.ensures ∙ r.0; after = r.1; cell = record { bytes = r.2; same_flaws = refl; same_count = refl }; untouched = λ x h. refl }
 
 -- the memory once the cell is filled
@@ -39,16 +39,9 @@ invariant_of-self c =
     let e = c.in_ok-reach.ensures in
     let h : i < p.count = within p.count i (length image) e in
     let w : length image ≡ 524 = whole_image p.count i (length image) e in
-    let k = filled p.memory c.fill_cell.new.memory c.as_mut_slice.result.now p.count i image p.sized h w c.as_mut_slice.ensures.value c.fill_cell.ensures in
+    let k = filled p.memory c.fill_cell.new.memory c.as_mut_slice.result.now p.count i image p.openable.0.2 h w c.as_mut_slice.ensures.value c.fill_cell.ensures in
     record {
-      some = p.some;
-      few = p.few;
-      sized = ap length k ∙ length_with_image xs i image (omega (arith, p.sized)) w ∙ p.sized;
-      marked = rw k (still_marked xs (vec_items p.flaws) p.count i image p.sized h w p.marked);
-      short = p.short;
-      sorted = p.sorted;
-      inside = p.inside;
-      apart = p.apart;
+      openable = ((p.openable.0.0, p.openable.0.1, ap length k ∙ length_with_image xs i image (omega (arith, p.openable.0.2)) w ∙ p.openable.0.2), (rw k (still_marked xs (vec_items p.flaws) p.count i image p.openable.0.2 h w p.openable.1.0), p.openable.1.1));
       row = length_plate _ (vec_items p.flaws) p.count;
     }
 
@@ -60,8 +53,8 @@ returns c =
     let e = c.in_ok-reach.ensures in
     let h : i < p.count = within p.count i (length image) e in
     let w : length image ≡ 524 = whole_image p.count i (length image) e in
-    let k = filled p.memory c.fill_cell.new.memory c.as_mut_slice.result.now p.count i image p.sized h w c.as_mut_slice.ensures.value c.fill_cell.ensures in
-    let mark = ap (λ ys. mark_at ys c.args.sector) (sym c.as_slice.ensures.value) ∙ sym c.mark_of.ensures in
+    let k = filled p.memory c.fill_cell.new.memory c.as_mut_slice.result.now p.count i image p.openable.0.2 h w c.as_mut_slice.ensures.value c.fill_cell.ensures in
+    let mark = ap (λ ys. mark_at ys c.args.sector) (sym c.as_slice.ensures.value) ∙ sym c.cell_of-mark.ensures.mark in
     let flawed = c.any_covers.ensures ∙ ap (λ fs. covered fs i) c.as_slice-2.ensures.value in
-    let r = burn_blank p i image e _ (sym flawed) (with_items p.memory c.fill_cell.new.memory) (mark ∙ c.if-mark_of-ne-BLANK.false) k in
+    let r = burn_blank p i image e _ (sym flawed) (with_items p.memory c.fill_cell.new.memory) (mark ∙ c.if-mark-ne-BLANK.false) k in
     record { answer = ap Ok c.of.ensures ∙ r.0; after = r.1; cell = record { bytes = r.2; same_flaws = refl; same_count = refl }; untouched = λ x h. let z : ◌≡◌ {A = ℕ} 0 1 = cc in absurd (omega arith) }
