@@ -1,17 +1,20 @@
 -- What reading and burning a sector of an open plate come to, way by way.
-use Rattle.std.proofs.Common.{◌≡◌, ℕ, ◌<◌, Bool, true, false, cond, ◌&&◌, eqb, List, length, Ok, Err, vec_items, Vec, sym, refl, ap, ◌∙◌}
+use Rattle.std.proofs.Common.{◌≡◌, ℕ, ◌*◌, ◌<◌, Bool, true, false, cond, ◌&&◌, eqb, List, length, Ok, Err, vec_items, Vec, sym, refl, ap, ◌∙◌, arith}
 use Rattle.medium.proofs.Reached.{burning_as, burning_refused, image_as, in_reach, out_of_reach, reading_as, sectors_as, sectors_refused, whole_image, within}
 use Rattle.medium.specs.Calls.{burning, filled, image_after, reaches, reaching, reading, sectors_after, shown, verdict}
 use Rattle.medium.specs.Faults.{medium_fault}
 use Rattle.medium.specs.declared.faults.Fault.{Fault}
 use Rattle.medium.specs.declared.faults.Refusal.TheVariants.{AlreadyBurnt}
 use Rattle.medium.specs.declared.interface.Reading.TheVariants.{Blank}
-use Rattle.plate.specs.Sectored.{blank_at, burnt_at, length_plate, plate_burnt}
+use Rattle.plate.specs.Sectored.{blank_at, burnt_at, length_plate, plate_burnt, still_marked}
 use Rattle.medium.specs.Sectors.{Sector, burnt, sector_at}
 use Rattle.plate.specs.Access.{sectors_of}
 use Rattle.plate.specs.Cells.{bytes_after, image_at, mark_at, with_image}
 use Rattle.plate.specs.Flaws.{covered}
-use Rattle.plate.specs.Plates.{plate_sectors}
+use Rattle.plate.specs.Plates.{PlateOpenable, plate_sectors}
+use Rattle.plate.specs.Filled.{length_with_image}
+use Rattle.std.proofs.lemmas.List.{with_items_is}
+use Rattle.std.specs.Vec.{with_items}
 use Rattle.plate.specs.declared.plates.Plate.{Plate}
 use Rattle.std.proofs.lemmas.Bool.{eq-eqb, ne_eqb}
 use Rattle.std.specs.declared.alloc.Global.{Global}
@@ -37,6 +40,9 @@ module _ (p : Plate) (i : ℕ) (image : List ℕ) where
   module _ (e : Ok tt ≡ reaching p.count i (length image)) where
     inside : i < p.count
     inside = within p.count i (length image) e
+
+    whole : length image ≡ 524
+    whole = whole_image p.count i (length image) e
 
     -- the sector is x
     module _ (x : Sector) (at : sector_at s i ≡ x) where
@@ -71,7 +77,19 @@ module _ (p : Plate) (i : ℕ) (image : List ℕ) where
           let at = blank_at xs (vec_items p.flaws) p.count i inside mark w flawed in (
             burning_as s p.count i image row e _ at,
             ap (λ ys. plate_sectors ys (vec_items p.flaws) p.count) k
-                ∙ plate_burnt xs (vec_items p.flaws) p.count i image p.openable.0.2 inside (whole_image p.count i (length image) e)
+                ∙ plate_burnt xs (vec_items p.flaws) p.count i image p.openable.0.2 inside whole
                 ∙ sectors_as s p.count i image row e _ at,
             k ∙ bytes_as true (eq-eqb (mark_at xs i) 0 mark),
           )
+
+    pub written : (ws : List ℕ) → ws ≡ with_image xs i image → vec_items (with_items p.memory ws) ≡ with_image xs i image
+    written ws k =
+        with_items_is p.memory ws (ap length k ∙ length_with_image xs i image (omega (arith, inside, p.openable.0.2)) whole ∙ sym p.memory.ok.0) ∙ k
+
+    pub still_openable : (ys : List ℕ) → ys ≡ with_image xs i image → PlateOpenable ys (vec_items p.flaws) p.count
+    still_openable ys k =
+        let old = p.openable in
+        let long : length ys ≡ 525 * p.count = ap length k ∙ length_with_image xs i image (omega (arith, inside, old.0.2)) whole ∙ old.0.2 in (
+          (old.0.0, old.0.1, long),
+          (rw k (still_marked xs (vec_items p.flaws) p.count i image old.0.2 inside whole old.1.0), old.1.1),
+        )

@@ -1,7 +1,7 @@
 -- What the cells of a plate hold once one of them is written.
-use Rattle.std.specs.Prelude.{◌≡◌, ℕ, suc, ◌+◌, ◌-◌, ◌*◌, ◌<◌, ◌≤◌, cond, List, [], ◌∷◌, ◌++◌, length, get_or, take, drop, set, ◌==◌, ◌≢◌, slice_index, slice_index_or, slice_set}
+use Rattle.std.specs.Prelude.{◌≡◌, ℕ, suc, ◌+◌, ◌-◌, ◌*◌, ◌<◌, ◌≤◌, cond, List, ◌∷◌, ◌++◌, length, get_or, take, drop, ◌==◌, ◌≢◌, slice_index_or}
 use Rattle.std.proofs.Common.{ap, ◌∙◌, ⊎_elim, arith}
-use Rattle.std.proofs.lemmas.List.{same_lists, length-take, length-drop, length-append, length-take-le, get_or-take, get_or-drop, get_or_append_left, get_or-append_right, get_or_at, set_at, take_more, append_assoc}
+use Rattle.std.proofs.lemmas.List.{same_lists, length-take, length-drop, length-append, length-take-le, get_or-take, get_or-drop, get_or_append_left, get_or-append_right, get_or_at}
 use Rattle.std.proofs.lemmas.Bool.{cases_lt}
 use Rattle.plate.specs.Cells.{image_at, mark_at, state_at, with_image}
 use Rattle.medium.proofs.Parts.{part_same}
@@ -59,10 +59,3 @@ module _ (xs : List ℕ) (i : ℕ) (image : List ℕ) (fits : 525 * i + 525 ≤ 
   other_state k ne =
       ap (λ m. cond (m == 0) blank (burnt (image_at (with_image xs i image) k))) (other_mark k ne)
       ∙ ap (λ t. cond (mark_at xs k == 0) blank (burnt t)) (part_same _ _ 524 (525 * k + 1) length_with_image (λ j d low high. other_byte k j d ne (omega arith) (omega arith)))
-
--- a byte is written just before what was pasted
-pub stored : (xs zs : List ℕ) (a : ℕ) → a < length xs → slice_set (take (a + 1) xs ++ zs) a 1 ≡ take a xs ++ 1 ∷ zs
-stored xs zs a h =
-    ap (λ t. set (t ++ zs) a 1) (take_more xs a 0 h)
-    ∙ ap (λ t. set t a 1) (append_assoc (take a xs) (slice_index xs a ∷ []) zs)
-    ∙ set_at (take a xs) (slice_index xs a) zs 1 a (length-take-le a xs (omega arith))

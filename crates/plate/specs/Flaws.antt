@@ -1,5 +1,5 @@
 -- The flaw list of a plate: runs of weak sectors, apart and in rising order.
-use Rattle.std.specs.Prelude.{ℕ, ◌+◌, ◌<◌, ◌≤◌, Bool, false, ◌&&◌, ◌||◌, List, [], ◌∷◌, map, length, nat_le, nat_lt, slice_index_or}
+use Rattle.std.specs.Prelude.{ℕ, ◌+◌, ◌<◌, ◌≤◌, Bool, ◌&&◌, List, map, length, nat_le, nat_lt}
 use Rattle.medium.specs.Order.{Rising}
 use Rattle.std.specs.List.{All, AllAdjacentBelow, Any, list_any}
 use Rattle.plate.specs.declared.flaws.Flaw.{Flaw}

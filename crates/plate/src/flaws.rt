@@ -34,7 +34,7 @@ impl Flaw {
     pub fn covers(&self, sector: u32) -> bool
         ensures { result ≡ covers self.now sector }
     {
-        self.offset <= sector && u64::from(sector) < self.end()
+        sector >= self.offset && u64::from(sector) < self.end()
     }
 
     // Whether it has a sector, and none past the last of `count`.
