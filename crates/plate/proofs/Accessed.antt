@@ -1,7 +1,7 @@
 -- What reading and burning a sector of an open plate come to, way by way.
-use Rattle.std.proofs.Common.{◌≡◌, ℕ, ◌*◌, ◌<◌, Bool, true, false, cond, ◌&&◌, eqb, List, length, Ok, Err, vec_items, Vec, sym, refl, ap, ◌∙◌, arith}
+use Rattle.std.proofs.Common.{◌≡◌, ℕ, ◌*◌, ◌<◌, Bool, true, false, cond, eqb, List, length, Ok, Err, vec_items, Vec, sym, refl, ap, ◌∙◌, arith}
 use Rattle.medium.proofs.Reached.{burning_as, burning_refused, image_as, in_reach, out_of_reach, reading_as, sectors_as, sectors_refused, whole_image, within}
-use Rattle.medium.specs.Calls.{burning, filled, image_after, reaches, reaching, reading, sectors_after, shown, verdict}
+use Rattle.medium.specs.Calls.{burning, filled, image_after, reaching, reading, sectors_after, shown, verdict}
 use Rattle.medium.specs.Faults.{medium_fault}
 use Rattle.medium.specs.declared.faults.Fault.{Fault}
 use Rattle.medium.specs.declared.faults.Refusal.TheVariants.{AlreadyBurnt}
@@ -34,7 +34,7 @@ module _ (p : Plate) (i : ℕ) (image : List ℕ) where
     burn_refused = (
       burning_refused s p.count i image row f e,
       sectors_refused s p.count i image row f e,
-      ap (λ b. cond (b && eqb (mark_at xs i) 0) (with_image xs i image) xs) (sym (out_of_reach p.count i (length image) f e)),
+      rw (out_of_reach p.count i (length image) f e),
     )
 
   module _ (e : Ok tt ≡ reaching p.count i (length image)) where
@@ -60,9 +60,7 @@ module _ (p : Plate) (i : ℕ) (image : List ℕ) where
       read_burnt mark = read_at _ (at_burnt mark)
 
       bytes_as : (b : Bool) → eqb (mark_at xs i) 0 ≡ b → cond b (with_image xs i image) xs ≡ bytes_after xs p.count i image
-      bytes_as b told =
-          ap (λ r. cond (r && b) (with_image xs i image) xs) (sym (in_reach p.count i (length image) e))
-          ∙ ap (λ m. cond (reaches p.count i (length image) && m) (with_image xs i image) xs) (sym told)
+      bytes_as b told = rw (in_reach p.count i (length image) e, told)
 
       pub burn_burnt : (mark_at xs i ≡ 0 → ⊥) → (Err (medium_fault AlreadyBurnt i) ≡ burning s i (length image)) × (s ≡ sectors_after s i image) × (xs ≡ bytes_after xs p.count i image)
       burn_burnt mark = (
