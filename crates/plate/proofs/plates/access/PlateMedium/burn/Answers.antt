@@ -1,11 +1,8 @@
 use Rattle.std.proofs.Common.{rules, refl}
-use Rattle.plate.proofs.Accessed.{burn_blank, burn_burnt, burn_refused, still_openable, written}
+use Rattle.plate.proofs.Accessed.{burn_blank, burn_burnt, still_openable, written}
 use Rattle.plate.specs.Sectored.{length_plate}
 use Rattle.std.specs.Vec.{with_items}
 use Rattle.plate.proofs.plates.access.PlateMedium.burn.Goals as goal
-
-pub returns-in_err-reach : goal.returns-in_err-reach
-returns-in_err-reach c = let h = burn_refused c.args.self.now c.args.sector c.args.image.now c.in_err-reach.field-0.0 c.in_err-reach.ensures in search (rules, h)
 
 pub returns-then-mark-ne-BLANK : goal.returns-then-mark-ne-BLANK
 returns-then-mark-ne-BLANK c = let h = burn_burnt c.args.self.now c.args.sector c.args.image.now c.in_ok-reach.ensures _ refl in search (rules, h)
