@@ -1,5 +1,5 @@
 -- What reading and burning a sector of an open plate come to, way by way.
-use Rattle.std.proofs.Common.{◌≡◌, ℕ, ◌*◌, ◌<◌, Bool, List, length, Ok, Err, vec_items, Vec, sym, refl, ap, ◌∙◌, arith}
+use Rattle.std.proofs.Common.{◌≡◌, ℕ, ◌<◌, Bool, List, length, Ok, Err, vec_items, sym, refl, ap, ◌∙◌, arith}
 use Rattle.medium.proofs.Reached.{burning_as, image_as, reading_as, sectors_as, whole_image, within}
 use Rattle.medium.specs.Calls.{burning, filled, image_after, reaching, reading, sectors_after, shown, verdict}
 use Rattle.medium.specs.Faults.{medium_fault}
@@ -15,7 +15,6 @@ use Rattle.plate.specs.Filled.{length_with_image}
 use Rattle.std.proofs.lemmas.List.{with_items_is}
 use Rattle.std.specs.Vec.{with_items}
 use Rattle.plate.specs.declared.plates.Plate.{Plate}
-use Rattle.std.specs.declared.alloc.Global.{Global}
 
 module _ (p : Plate) (i : ℕ) (image : List ℕ) where
   abbrev s : List Sector
@@ -55,14 +54,12 @@ module _ (p : Plate) (i : ℕ) (image : List ℕ) where
         sectors_as s p.count i image row e _ (at_burnt mark),
       )
 
-      -- the memory m is what was there with the cell filled
-      pub burn_blank : (m : Vec ℕ Global) → mark_at xs i ≡ 0 → vec_items m ≡ with_image xs i image → (Ok (verdict w) ≡ burning s i (length image)) × (plate_sectors (vec_items m) (vec_items p.flaws) p.count ≡ sectors_after s i image)
-      burn_blank m mark k =
+      -- the bytes ys are what was there with the cell filled
+      pub burn_blank : (ys : List ℕ) → mark_at xs i ≡ 0 → ys ≡ with_image xs i image → (Ok (verdict w) ≡ burning s i (length image)) × (plate_sectors ys (vec_items p.flaws) p.count ≡ sectors_after s i image)
+      burn_blank ys mark k =
           let at = blank_at xs (vec_items p.flaws) p.count i inside mark w flawed in (
             burning_as s p.count i image row e _ at,
-            ap (λ ys. plate_sectors ys (vec_items p.flaws) p.count) k
-                ∙ plate_burnt xs (vec_items p.flaws) p.count i image p.openable.0.2 inside whole
-                ∙ sectors_as s p.count i image row e _ at,
+            rw (k, plate_burnt xs (vec_items p.flaws) p.count i image p.openable.0.2 inside whole) (sectors_as s p.count i image row e _ at),
           )
 
     pub written : (ws : List ℕ) → ws ≡ with_image xs i image → vec_items (with_items p.memory ws) ≡ with_image xs i image
@@ -72,7 +69,5 @@ module _ (p : Plate) (i : ℕ) (image : List ℕ) where
     pub still_openable : (ys : List ℕ) → ys ≡ with_image xs i image → PlateOpenable ys (vec_items p.flaws) p.count
     still_openable ys k =
         let old = p.openable in
-        let long : length ys ≡ 525 * p.count = ap length k ∙ length_with_image xs i image (omega (arith, inside, old.0.2)) whole ∙ old.0.2 in (
-          (old.0.0, old.0.1, long),
-          (rw k (still_marked xs (vec_items p.flaws) p.count i image old.0.2 inside whole old.1.0), old.1.1),
-        )
+        let long = length_with_image xs i image (omega (arith, inside, old.0.2)) whole in
+        rw k ((old.0.0, old.0.1, long ∙ old.0.2), (still_marked xs (vec_items p.flaws) p.count i image old.0.2 inside whole old.1.0, old.1.1))

@@ -59,5 +59,7 @@ pub(crate) fn are_formed(flaws: &[Flaw], count: u32) -> bool
     flaws.len() <= MOST_FLAWS
         && rising(flaws)
         && flaws.iter().all(|flaw| flaw.is_inside(count))
-        && flaws.array_windows::<2>().all(|[a, b]| a.end() <= u64::from(b.offset))
+        && flaws
+            .array_windows::<2>()
+            .all(|[a, b]| a.end() <= u64::from(b.offset))
 }

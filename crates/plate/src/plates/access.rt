@@ -20,11 +20,11 @@ impl Medium for Plate {
 
     fn read(&self, sector: u32, image: &mut [u8]) -> Result<Reading, Fault> {
         reach(self.count, sector, image.len())?;
-        let (mark, stored) = cell_of(self.memory.as_slice(), sector);
+        let (mark, stored) = cell_of(&self.memory, sector);
         if mark == BLANK {
             return Ok(Reading::Blank);
         }
-        if any_covers(self.flaws.as_slice(), sector) {
+        if any_covers(&self.flaws, sector) {
             return Ok(Reading::Spoiled);
         }
         image.copy_from_slice(stored);
@@ -39,11 +39,11 @@ impl Medium for Plate {
         ensures cell { BurntInCell self.old sector image.now self.new }
     {
         reach(self.count, sector, image.len())?;
-        let (mark, _) = cell_of(self.memory.as_slice(), sector);
+        let (mark, _) = cell_of(&self.memory, sector);
         if mark != BLANK {
             return Err(Fault::in_medium(Refusal::AlreadyBurnt, sector));
         }
-        fill_cell(self.memory.as_mut_slice(), sector, image);
-        Ok(Verdict::of(any_covers(self.flaws.as_slice(), sector)))
+        fill_cell(&mut self.memory, sector, image);
+        Ok(Verdict::of(any_covers(&self.flaws, sector)))
     }
 }

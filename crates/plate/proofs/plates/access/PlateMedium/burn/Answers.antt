@@ -1,7 +1,6 @@
 use Rattle.std.proofs.Common.{rules, refl}
 use Rattle.plate.proofs.Accessed.{burn_blank, burn_burnt, still_openable, written}
 use Rattle.plate.specs.Sectored.{length_plate}
-use Rattle.std.specs.Vec.{with_items}
 use Rattle.plate.proofs.plates.access.PlateMedium.burn.Goals as goal
 
 pub returns-then-mark-ne-BLANK : goal.returns-then-mark-ne-BLANK
@@ -17,4 +16,4 @@ pub returns : goal.returns
 returns c =
     let p = c.args.self.now in
     let k = written p c.args.sector c.args.image.now c.in_ok-reach.ensures c.fill_cell.new.memory (cc) in
-    let h = burn_blank p c.args.sector c.args.image.now c.in_ok-reach.ensures _ refl (with_items p.memory c.fill_cell.new.memory) (cc) k in search (rules, h)
+    let h = burn_blank p c.args.sector c.args.image.now c.in_ok-reach.ensures _ refl _ (cc) k in search (rules, h)
