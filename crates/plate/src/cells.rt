@@ -11,6 +11,7 @@ pub(crate) const BLANK: u8 = 0;
 pub(crate) const BURNT: u8 = 1;
 
 // The mark of a sector's cell, and the image behind it.
+#[tactic(auto, using(std::proofs::lemmas::List::take_rest))]
 pub(crate) fn cell_of(memory: &[u8], sector: u32) -> (u8, &[u8; IMAGE_BYTES])
     requires { 525 * sector + 525 ≤ length memory.now }
     ensures mark { result.0 ≡ mark_at memory.now sector }

@@ -1,6 +1,6 @@
 // The flaw list of a plate: which sectors are weak.
 ghost use Rattle.std.specs.Prelude.{◌≡◌, Decides};
-ghost use Rattle.plate.specs.Flaws.{AllInside, Apart, FlawsFormed, Inside, covered, covers, end_of};
+ghost use Rattle.plate.specs.Flaws.{FlawsFormed, Inside, covered, covers, end_of};
 
 use medium::{Keyed, rising};
 

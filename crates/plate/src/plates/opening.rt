@@ -17,6 +17,7 @@ impl Plate {
     }
 
     // Takes the caller's bytes, whatever they hold, and hands them back with the fault if they are no plate's.
+    #[tactic(auto, using(crate::specs::Sectored::length_plate, crate::specs::Sectored::plate_means))]
     pub fn open(memory: Vec<u8>, flaws: Vec<Flaw>, count: u32) -> Result<Plate, Unopened>
         ensures { MatchResult result (Opened memory flaws count) (Refused memory flaws count) }
     {
