@@ -1,6 +1,7 @@
 -- The flaw list of a plate: runs of weak sectors, apart and in rising order.
-use Rattle.std.specs.Prelude.{ℕ, ◌+◌, ◌<◌, ◌≤◌, Bool, false, ◌&&◌, ◌||◌, List, [], ◌∷◌, map, length, nat_le, nat_lt, slice_index_or}
+use Rattle.std.specs.Prelude.{ℕ, ◌+◌, ◌<◌, ◌≤◌, Bool, ◌&&◌, List, map, length, nat_le, nat_lt}
 use Rattle.medium.specs.Order.{Rising}
+use Rattle.std.specs.List.{All, AllAdjacentBelow, Any, list_any}
 use Rattle.plate.specs.declared.flaws.Flaw.{Flaw}
 
 -- the first sector behind a flaw
@@ -11,27 +12,20 @@ end_of f = f.offset + f.length
 abbrev pub Covers : Flaw → ℕ → Type 0
 Covers f i = (f.offset ≤ i) × (i < end_of f)
 
--- what a place past the last flaw reads as; no promise speaks of it
-abbrev pub no_flaw : Flaw
-no_flaw = record { offset = 0; length = 0 }
-
-abbrev pub flaw_at : List Flaw → ℕ → Flaw
-flaw_at fs k = slice_index_or fs k no_flaw
-
 -- some flaw of the list covers sector i
 abbrev pub Covered : List Flaw → ℕ → Type 0
-Covered fs i = (k : ℕ) × (k < length fs) × Covers (flaw_at fs k) i
+Covered fs i = Any (λ f. Covers f i) fs
 
 -- a flaw has a sector at least, and ends by sector p
 abbrev pub Inside : Flaw → ℕ → Type 0
 Inside f p = (1 ≤ f.length) × (end_of f ≤ p)
 
 abbrev pub AllInside : List Flaw → ℕ → Type 0
-AllInside fs p = (k : ℕ) → k < length fs → Inside (flaw_at fs k) p
+AllInside fs p = All (λ f. Inside f p) fs
 
 -- each flaw ends by the beginning of the next
 abbrev pub Apart : List Flaw → Type 0
-Apart fs = (k : ℕ) → k + 1 < length fs → end_of (flaw_at fs k) ≤ (flaw_at fs (k + 1)).offset
+Apart fs = AllAdjacentBelow (λ a b. end_of a ≤ b.offset) fs (length fs)
 
 -- the flaw list of a plate of p sectors
 pub record FlawsFormed (fs : List Flaw) (p : ℕ) : Type 0 where
@@ -45,5 +39,4 @@ abbrev pub covers : Flaw → ℕ → Bool
 covers f i = nat_le f.offset i && nat_lt i (end_of f)
 
 abbrev pub covered : List Flaw → ℕ → Bool
-covered [] i = false
-covered (f ∷ fs) i = covers f i || covered fs i
+covered fs i = list_any (λ f. covers f i) fs

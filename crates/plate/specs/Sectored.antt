@@ -1,14 +1,14 @@
 -- The sectors of a plate, one by one, and once one of them is burnt.
-use Rattle.std.specs.Prelude.{◌≡◌, ℕ, ◌+◌, ◌*◌, ◌<◌, ◌≤◌, Bool, cond, List, length, drop, Decides, ◌==◌, ◌≢◌, refl}
-use Rattle.std.proofs.Common.{ap, subst, sym, ◌∙◌, ⊎_elim, arith}
+use Rattle.std.specs.Prelude.{◌≡◌, ℕ, ◌+◌, ◌*◌, ◌<◌, ◌≤◌, Bool, List, length, drop, ◌==◌, ◌≢◌, refl}
+use Rattle.std.proofs.Common.{ap, ⊎_elim, arith}
 use Rattle.medium.proofs.Rows.{length_row, row_at, row_burnt, row_lawful}
 use Rattle.medium.specs.Calls.{with_burnt}
-use Rattle.medium.specs.Sectors.{Lawful, Sector, Whole, blank, burnt, sector_at}
+use Rattle.medium.specs.Sectors.{Lawful, Whole, blank, burnt, sector_at}
 use Rattle.plate.specs.Covering.{covered_decides}
 use Rattle.plate.specs.Filled.{mark_with_image, other_mark, other_state, state_with_image}
 use Rattle.plate.specs.Cells.{Marked, image_at, mark_at, state_at, with_image}
-use Rattle.plate.specs.Flaws.{Covered, covered}
-use Rattle.plate.specs.Plates.{PlateMeans, plate_sector, plate_sectors}
+use Rattle.plate.specs.Flaws.{covered}
+use Rattle.plate.specs.Plates.{PlateMeans, PlateSized, plate_sector, plate_sectors}
 use Rattle.plate.specs.declared.flaws.Flaw.{Flaw}
 use Rattle.std.proofs.lemmas.List.{length-take, length-drop}
 use Rattle.std.proofs.lemmas.Bool.{cases_eq, cond_both, ne_eqb}
@@ -18,32 +18,26 @@ module _ (xs : List ℕ) (fs : List Flaw) (p : ℕ) where
   length_plate = length_row (plate_sector xs fs) p
 
   pub blank_at : (i : ℕ) → i < p → mark_at xs i ≡ 0 → (w : Bool) → covered fs i ≡ w → sector_at (plate_sectors xs fs p) i ≡ record { weak = w; state = blank }
-  blank_at i h e w f =
-      row_at (plate_sector xs fs) p i h
-      ∙ ap (λ m. record { weak = covered fs i; state = cond (m == 0) blank (burnt (image_at xs i)) }) e
-      ∙ ap (λ v. record { weak = v; state = blank }) f
+  blank_at i h e w f = rw (row_at (plate_sector xs fs) p i h, e, f)
 
   pub burnt_at : (i : ℕ) → i < p → (mark_at xs i ≢ 0) → (w : Bool) → covered fs i ≡ w → sector_at (plate_sectors xs fs p) i ≡ record { weak = w; state = burnt (image_at xs i) }
-  burnt_at i h ne w f =
-      row_at (plate_sector xs fs) p i h
-      ∙ ap (λ t. record { weak = covered fs i; state = cond t blank (burnt (image_at xs i)) }) (ne_eqb (mark_at xs i) 0 ne)
-      ∙ ap (λ v. record { weak = v; state = burnt (image_at xs i) }) f
+  burnt_at i h ne w f = rw (row_at (plate_sector xs fs) p i h, ne_eqb (mark_at xs i) 0 ne, f)
 
   whole_at : (i : ℕ) → i < p → length xs ≡ 525 * p → Whole (state_at xs i)
   whole_at i h e =
       cond_both (mark_at xs i == 0) blank (burnt (image_at xs i)) Whole (λ _. tt)
       (λ _. omega (arith, length-take 524 (drop (525 * i + 1) xs), length-drop (525 * i + 1) xs))
 
-  pub plate_lawful : 1 ≤ p → p ≤ 640064 → length xs ≡ 525 * p → Lawful (plate_sectors xs fs p)
-  plate_lawful some few sized = row_lawful (plate_sector xs fs) p some few (λ i h. whole_at i h sized)
+  pub plate_lawful : PlateSized (length xs) p → Lawful (plate_sectors xs fs p)
+  plate_lawful h = row_lawful (plate_sector xs fs) p h.0 h.1 (λ i l. whole_at i l h.2)
 
   pub plate_means : PlateMeans xs fs p (plate_sectors xs fs p)
   plate_means =
       record {
         many = length_plate;
-        weak = λ i h. subst (λ (x : Sector). Decides x.weak (Covered fs i)) (sym (row_at (plate_sector xs fs) p i h)) (covered_decides fs i);
-        unmarked = λ i h e. ap (λ (x : Sector). x.state) (blank_at i h e (covered fs i) refl);
-        marked = λ i h e. ap (λ (x : Sector). x.state) (burnt_at i h (λ z. omega arith) (covered fs i) refl);
+        weak = λ i h. rw (row_at (plate_sector xs fs) p i h) (covered_decides fs i);
+        unmarked = λ i h e. rw (blank_at i h e (covered fs i) refl);
+        marked = λ i h e. rw (burnt_at i h (λ z. omega arith) (covered fs i) refl);
       }
 
 module _ (xs : List ℕ) (fs : List Flaw) (p i : ℕ) (image : List ℕ) (sized : length xs ≡ 525 * p) (within : i < p) (whole : length image ≡ 524) where
@@ -59,12 +53,12 @@ module _ (xs : List ℕ) (fs : List Flaw) (p i : ℕ) (image : List ℕ) (sized 
       i
       image
       within
-      (ap (λ t. record { weak = covered fs i; state = t }) (state_with_image xs i image fits whole))
-      (λ k h ne. ap (λ t. record { weak = covered fs k; state = t }) (other_state xs i image fits whole k ne))
+      (rw (state_with_image xs i image fits whole))
+      (λ k h ne. rw (other_state xs i image fits whole k ne))
 
   pub still_marked : Marked xs p → Marked (with_image xs i image) p
   still_marked old k h =
       ⊎_elim
       (λ e. omega (arith, ap (mark_at (with_image xs i image)) e, mark_with_image xs i image fits whole))
-      (λ ne. omega (arith, other_mark xs i image fits whole k ne, old k h))
+      (λ ne. rw (other_mark xs i image fits whole k ne) (old k h))
       (cases_eq k i)

@@ -10,20 +10,15 @@ pub(crate) const BLANK: u8 = 0;
 
 pub(crate) const BURNT: u8 = 1;
 
-pub(crate) fn mark_of(memory: &[u8], sector: u32) -> u8
+// The mark of a sector's cell, and the image behind it.
+#[tactic(auto, using(std::proofs::lemmas::List::take_rest))]
+pub(crate) fn cell_of(memory: &[u8], sector: u32) -> (u8, &[u8; IMAGE_BYTES])
     requires { 525 * sector + 525 ≤ length memory.now }
-    ensures { result ≡ mark_at memory.now sector }
-{
-    memory[CELL_BYTES * sector as usize]
-}
-
-pub(crate) fn image_of(memory: &[u8], sector: u32) -> &[u8]
-    requires { 525 * sector + 525 ≤ length memory.now }
-    ensures value { result.now ≡ image_at memory.now sector }
-    ensures long { length result.now ≡ 524 }
+    ensures mark { result.0 ≡ mark_at memory.now sector }
+    ensures image { result.1.now ≡ image_at memory.now sector }
 {
     let at = CELL_BYTES * sector as usize;
-    &memory[at + 1..at + CELL_BYTES]
+    (memory[at], memory[at + 1..].first_chunk().unwrap())
 }
 
 // Whether each mark says blank or burnt.
@@ -31,12 +26,7 @@ pub(crate) fn are_marked(memory: &[u8], count: u32) -> bool
     requires { 525 * count ≤ length memory.now }
     ensures { Decides result (Marked memory.now count) }
 {
-    for sector in 0..count {
-        if mark_of(memory, sector) > BURNT {
-            return false;
-        }
-    }
-    true
+    (0..count).all(|sector| cell_of(memory, sector).0 <= BURNT)
 }
 
 // Writes the image into the sector's cell, and marks it as burnt.
@@ -45,6 +35,7 @@ pub(crate) fn fill_cell(memory: &mut [u8], sector: u32, image: &[u8])
     ensures { memory.new ≡ with_image memory.old sector image.now }
 {
     let at = CELL_BYTES * sector as usize;
-    memory[at + 1..at + CELL_BYTES].copy_from_slice(image);
-    memory[at] = BURNT;
+    let cell = &mut memory[at..at + CELL_BYTES];
+    cell[0] = BURNT;
+    cell[1..].copy_from_slice(image);
 }

@@ -1,7 +1,6 @@
 // The flaw list of a plate: which sectors are weak.
-ghost use Rattle.std.specs.Prelude.{◌≡◌, ◌≤◌, map, Decides};
-ghost use Rattle.medium.specs.Order.{Rising};
-ghost use Rattle.plate.specs.Flaws.{AllInside, Apart, FlawsFormed, Inside, covered, covers};
+ghost use Rattle.std.specs.Prelude.{◌≡◌, Decides};
+ghost use Rattle.plate.specs.Flaws.{FlawsFormed, Inside, covered, covers, end_of};
 
 use medium::{Keyed, rising};
 
@@ -25,17 +24,24 @@ impl Keyed for Flaw {
 }
 
 impl Flaw {
+    // The first sector behind it. It may be past any that a `u32` can name.
+    fn end(&self) -> u64
+        ensures { result ≡ end_of self.now }
+    {
+        u64::from(self.offset) + u64::from(self.length)
+    }
+
     pub fn covers(&self, sector: u32) -> bool
         ensures { result ≡ covers self.now sector }
     {
-        sector >= self.offset && sector - self.offset < self.length
+        sector >= self.offset && u64::from(sector) < self.end()
     }
 
     // Whether it has a sector, and none past the last of `count`.
     fn is_inside(&self, count: u32) -> bool
         ensures { Decides result (Inside self.now count) }
     {
-        1 <= self.length && self.length <= count && self.offset <= count - self.length
+        1 <= self.length && self.end() <= u64::from(count)
     }
 }
 
@@ -43,41 +49,17 @@ impl Flaw {
 pub(crate) fn any_covers(flaws: &[Flaw], sector: u32) -> bool
     ensures { result ≡ covered flaws.now sector }
 {
-    for flaw in flaws {
-        if flaw.covers(sector) {
-            return true;
-        }
-    }
-    false
+    flaws.iter().any(|flaw| flaw.covers(sector))
 }
 
 // Whether this is the flaw list of a plate of `count` sectors.
 pub(crate) fn are_formed(flaws: &[Flaw], count: u32) -> bool
     ensures { Decides result (FlawsFormed flaws.now count) }
 {
-    flaws.len() <= MOST_FLAWS && rising(flaws) && are_inside(flaws, count) && are_apart(flaws)
-}
-
-fn are_inside(flaws: &[Flaw], count: u32) -> bool
-    ensures { Decides result (AllInside flaws.now count) }
-{
-    for flaw in flaws {
-        if !flaw.is_inside(count) {
-            return false;
-        }
-    }
-    true
-}
-
-// Whether each flaw ends by the beginning of the next one, which in rising order is not before its own.
-fn are_apart(flaws: &[Flaw]) -> bool
-    requires { Rising (map (λ f. f.offset) flaws.now) }
-    ensures { Decides result (Apart flaws.now) }
-{
-    for i in 1..flaws.len() {
-        if flaws[i].offset - flaws[i - 1].offset < flaws[i - 1].length {
-            return false;
-        }
-    }
-    true
+    flaws.len() <= MOST_FLAWS
+        && rising(flaws)
+        && flaws.iter().all(|flaw| flaw.is_inside(count))
+        && flaws
+            .array_windows::<2>()
+            .all(|[a, b]| a.end() <= u64::from(b.offset))
 }

@@ -4,7 +4,7 @@ ghost use Rattle.medium.specs.Calls.{burning, sectors_after};
 ghost use Rattle.plate.specs.Access.{BurntInCell, sectors_of};
 ghost use Rattle.plate.specs.Sectored.{plate_lawful};
 
-use crate::cells::{BLANK, fill_cell, image_of, mark_of};
+use crate::cells::{BLANK, cell_of, fill_cell};
 use crate::flaws::any_covers;
 use crate::plates::Plate;
 use medium::{Fault, Layer, Medium, Reading, Refusal, Verdict, reach};
@@ -12,7 +12,7 @@ use medium::{Fault, Layer, Medium, Reading, Refusal, Verdict, reach};
 impl Medium for Plate {
     ghost sectors = { sectors_of };
 
-    ghost lawful = { λ m. plate_lawful m.memory.items m.flaws.items m.count m.some m.few m.sized };
+    ghost lawful = { λ m. plate_lawful m.memory.items m.flaws.items m.count m.openable.0 };
 
     fn count(&self) -> u32 {
         self.count
@@ -20,13 +20,14 @@ impl Medium for Plate {
 
     fn read(&self, sector: u32, image: &mut [u8]) -> Result<Reading, Fault> {
         reach(self.count, sector, image.len())?;
-        if mark_of(self.memory.as_slice(), sector) == BLANK {
+        let (mark, stored) = cell_of(&self.memory, sector);
+        if mark == BLANK {
             return Ok(Reading::Blank);
         }
-        if any_covers(self.flaws.as_slice(), sector) {
+        if any_covers(&self.flaws, sector) {
             return Ok(Reading::Spoiled);
         }
-        image.copy_from_slice(image_of(self.memory.as_slice(), sector));
+        image.copy_from_slice(stored);
         Ok(Reading::Sound)
     }
 
@@ -38,10 +39,11 @@ impl Medium for Plate {
         ensures cell { BurntInCell self.old sector image.now self.new }
     {
         reach(self.count, sector, image.len())?;
-        if mark_of(self.memory.as_slice(), sector) != BLANK {
+        let (mark, _) = cell_of(&self.memory, sector);
+        if mark != BLANK {
             return Err(Layer::Medium.refuses(Refusal::AlreadyBurnt, sector));
         }
-        fill_cell(self.memory.as_mut_slice(), sector, image);
-        Ok(Verdict::of(any_covers(self.flaws.as_slice(), sector)))
+        fill_cell(&mut self.memory, sector, image);
+        Ok(Verdict::of(any_covers(&self.flaws, sector)))
     }
 }

@@ -10,10 +10,11 @@ use medium::{Fault, Layer, Refusal, is_sized};
 
 impl Plate {
     // Takes the caller's bytes, whatever they hold, and hands them back with the fault if they are no plate's.
+    #[tactic(auto, using(crate::specs::Sectored::length_plate, crate::specs::Sectored::plate_means))]
     pub fn open(memory: Vec<u8>, flaws: Vec<Flaw>, count: u32) -> Result<Plate, Unopened>
         ensures { MatchResult result (Opened memory flaws count) (Refused memory flaws count) }
     {
-        match check(memory.as_slice(), flaws.as_slice(), count) {
+        match check(&memory, &flaws, count) {
             Ok(()) => Ok(Plate {
                 memory,
                 flaws,
@@ -31,12 +32,7 @@ impl Plate {
     pub fn close(self) -> (Vec<u8>, Vec<Flaw>)
         ensures { Closed self result.0 result.1 }
     {
-        let Plate {
-            memory,
-            flaws,
-            count: _,
-        } = self;
-        (memory, flaws)
+        (self.memory, self.flaws)
     }
 }
 

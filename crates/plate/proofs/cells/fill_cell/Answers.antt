@@ -1,12 +1,17 @@
-use Rattle.std.proofs.Common.{◌≡◌, ◌+◌, ◌-◌, ◌*◌, ◌∷◌, ◌++◌, take, drop, ap, ◌∙◌, arith}
-use Rattle.std.proofs.lemmas.List.{drop-drop}
-use Rattle.plate.specs.Filled.{stored}
+use Rattle.std.proofs.Common.{◌≡◌, ℕ, ◌+◌, ◌-◌, ◌*◌, ◌<◌, ◌∷◌, [], List, length, take, drop, arith}
+use Rattle.std.proofs.Math.ListN.{set}
+use Rattle.std.proofs.lemmas.List.{drop-drop, drop_all, append-nil, length-drop, length-take}
+use borrow.Rule.Slice.PartMut.{put_mid}
 use Rattle.plate.proofs.cells.fill_cell.Goals as goal
+
+-- a cell once its mark and then all behind that is written
+filled : (cell image : List ℕ) → 0 < length cell → put_mid 1 (length (set cell 0 1) - 1) (set cell 0 1) image ≡ 1 ∷ image
+filled [] image h = absurd (omega arith)
+filled (mark ∷ rest) image h = rw (drop_all (length (mark ∷ rest) - 1) rest (omega arith), append-nil)
 
 pub returns : goal.returns
 returns c =
     let xs = c.args.memory.now in
     let a = 525 * c.args.sector in
-    stored xs _ a (omega arith)
-    ∙ ap (λ t. take a xs ++ 1 ∷ (t ++ drop (a + 525 - (a + 1)) (drop (a + 1) xs))) c.copy_from_slice.ensures.after
-    ∙ ap (λ t. take a xs ++ 1 ∷ (c.args.image.now ++ t)) (drop-drop (a + 525 - (a + 1)) (a + 1) xs ∙ ap (λ n. drop n xs) (let e : a + 1 + (a + 525 - (a + 1)) ≡ a + 525 = omega arith in e))
+    let part : a + 525 - a ≡ 525 = omega arith in
+    rw (part, filled (take 525 (drop a xs)) _ (omega (arith, length-take 525 (drop a xs), length-drop a xs)), c.copy_from_slice.ensures.after, drop-drop)
