@@ -8,26 +8,25 @@ ghost use Rattle.pointers_format.specs.Mounting.{MountRefused, Mounted, mounting
 
 use crate::copies::{burn_sheet, read_geometry};
 use crate::format_a::FormatA;
-use crate::linking::{check_links, find_spare};
+use crate::linking::OnMedium;
 use crate::storing::place;
-use format::fault;
-use medium::{Fault, Medium, Refusal, lowest_burnt};
+use format::{Block, Sheet};
+use medium::{Fault, Layer, Medium, Refusal, lowest_burnt};
 use pointers::Pointers;
 
 impl FormatA {
     // Initialises a blank medium with the layout of the sheet.
-    pub fn initialise<M: Medium>(medium: &mut M, sheet: &[u8]) -> Result<FormatA, Fault>
-        requires { length sheet.now ≡ 512 }
+    pub fn initialise<M: Medium>(medium: &mut M, sheet: &Sheet) -> Result<FormatA, Fault>
         ensures answer { result ≡ initialising (M.Medium.sectors medium.old) sheet.now }
         ensures after { M.Medium.sectors medium.new ≡ initialised (M.Medium.sectors medium.old) sheet.now }
         ensures meaning { MatchResult result (Initialised (M.Medium.sectors medium.old) sheet.now (M.Medium.sectors medium.new)) (InitialiseRefused (M.Medium.sectors medium.old) sheet.now (M.Medium.sectors medium.new)) }
     {
         let geometry = Pointers::read(medium.count(), sheet)?;
         if let Some(sector) = lowest_burnt(medium)? {
-            return Err(fault(Refusal::NotBlank, sector));
+            return Err(Layer::Format.refuses(Refusal::NotBlank, sector));
         }
         if !burn_sheet(&geometry, medium)? {
-            return Err(fault(Refusal::LayoutNotBurnt, 0));
+            return Err(Layer::Format.refuses(Refusal::LayoutNotBurnt, 0));
         }
         Ok(FormatA { geometry })
     }
@@ -38,7 +37,11 @@ impl FormatA {
         ensures meaning { MatchResult result (Mounted (M.Medium.sectors medium.now)) (MountRefused (M.Medium.sectors medium.now)) }
     {
         let geometry = read_geometry(medium)?;
-        check_links(&geometry, medium)?;
+        let on_medium = OnMedium {
+            geometry: &geometry,
+            medium,
+        };
+        on_medium.check_links()?;
         Ok(FormatA { geometry })
     }
 
@@ -47,31 +50,29 @@ impl FormatA {
         ensures { result ≡ on_its_medium (size_of self.now) (M.Medium.sectors medium.now) (Ok tt) }
     {
         if medium.count() != self.geometry.sector_count() {
-            return Err(fault(Refusal::WrongSectorCount, 0));
+            return Err(Layer::Format.refuses(Refusal::WrongSectorCount, 0));
         }
         Ok(())
     }
 
     // Stores a block, or refuses it by 14 where no place was left to it.
-    fn record<M: Medium>(&self, medium: &mut M, block: u32, bytes: &[u8]) -> Result<(), Fault>
+    fn record<M: Medium>(&self, medium: &mut M, block: u32, bytes: &Block) -> Result<(), Fault>
         requires there { block < blocks_of self.now }
         requires unwritten { blank_at (M.Medium.sectors medium.old) (home_of self.now block) ≡ true }
-        requires whole { length bytes.now ≡ 512 }
         ensures answer { result ≡ on_its_medium (size_of self.now) (M.Medium.sectors medium.old) (storing (left_of self.now (M.Medium.sectors medium.old) block) block) }
         ensures after { M.Medium.sectors medium.new ≡ stored_on (size_of self.now) (M.Medium.sectors medium.old) (stored_of self.now (M.Medium.sectors medium.old) block bytes.now) }
     {
         self.fit(medium)?;
         if !place(&self.geometry, medium, block, bytes)? {
-            return Err(fault(Refusal::NoPlaceLeft, block));
+            return Err(Layer::Format.refuses(Refusal::NoPlaceLeft, block));
         }
         Ok(())
     }
 
     // Stores a block whose home is blank.
-    pub fn store<M: Medium>(&self, medium: &mut M, block: u32, bytes: &[u8]) -> Result<(), Fault>
+    pub fn store<M: Medium>(&self, medium: &mut M, block: u32, bytes: &Block) -> Result<(), Fault>
         requires there { block < blocks_of self.now }
         requires unwritten { blank_at (M.Medium.sectors medium.old) (home_of self.now block) ≡ true }
-        requires whole { length bytes.now ≡ 512 }
         ensures answer { result ≡ on_its_medium (size_of self.now) (M.Medium.sectors medium.old) (storing (left_of self.now (M.Medium.sectors medium.old) block) block) }
         ensures after { M.Medium.sectors medium.new ≡ stored_on (size_of self.now) (M.Medium.sectors medium.old) (stored_of self.now (M.Medium.sectors medium.old) block bytes.now) }
         ensures meaning { BlockStored self.now (M.Medium.sectors medium.old) block bytes.now result (M.Medium.sectors medium.new) }
@@ -84,6 +85,10 @@ impl FormatA {
         ensures { result ≡ on_its_medium (size_of self.now) (M.Medium.sectors medium.now) (Ok (spare_of (links_of self.now (M.Medium.sectors medium.now)) home)) }
     {
         self.fit(medium)?;
-        find_spare(&self.geometry, medium, home)
+        let on_medium = OnMedium {
+            geometry: &self.geometry,
+            medium,
+        };
+        on_medium.find_spare(home)
     }
 }

@@ -7,9 +7,9 @@ ghost use Rattle.pointers_format.specs.Mounting.{geometry_of};
 ghost use Rattle.pointers.specs.Rules.{fits_format, last_track};
 
 use crate::pointer::image_of;
-use format::{burn_copies, fault, find_copy};
-use medium::{Fault, IMAGE_BYTES, Medium, Refusal};
-use pointers::{Pointers, SECTORS_A_TRACK, SHEET_BYTES, fits_format};
+use format::{burn_copies, find_copy};
+use medium::{Fault, Image, Layer, Medium, Refusal};
+use pointers::{Pointers, SECTORS_A_TRACK, fits_format};
 
 // Where the copies stand on a medium of so many sectors.
 fn copies(sectors: u32) -> [u32; 4]
@@ -26,7 +26,7 @@ fn copies(sectors: u32) -> [u32; 4]
 }
 
 // What is burnt into each of them: the sheet, and (FF) where pointers would stand.
-fn copy_image(geometry: &Pointers) -> [u8; 524]
+fn copy_image(geometry: &Pointers) -> Image
     ensures { result ≡ copy_image geometry.now.layout }
 {
     image_of(&geometry.write(), [0xFF; 12])
@@ -52,11 +52,11 @@ pub(crate) fn read_geometry<M: Medium>(medium: &M) -> Result<Pointers, Fault>
 {
     let sectors = medium.count();
     if !fits_format(sectors) {
-        return Err(fault(Refusal::WrongSectorCount, 0));
+        return Err(Layer::Format.refuses(Refusal::WrongSectorCount, 0));
     }
-    let mut image = [0; IMAGE_BYTES];
-    match find_copy(medium, &copies(sectors), &mut image)? {
-        Some(_) => Pointers::read(sectors, &image[0..SHEET_BYTES]),
-        None => Err(fault(Refusal::NoSoundLayout, 0)),
-    }
+    let Some(copy) = find_copy(medium, &copies(sectors))? else {
+        return Err(Layer::Format.refuses(Refusal::NoSoundLayout, 0));
+    };
+    let (_, image) = copy;
+    Pointers::read(sectors, image.first_chunk().unwrap())
 }

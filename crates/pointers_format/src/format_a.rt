@@ -9,7 +9,7 @@ ghost use Rattle.pointers_format.specs.Begun;
 ghost use Rattle.pointers_format.specs.Kept;
 ghost use Rattle.pointers_format.specs.Kept.{storing_result, home_place};
 
-use format::{Addressing, Format};
+use format::{Addressing, Block, Format, Sheet};
 use medium::{Fault, Medium};
 use pointers::{Pointers, SECTORS_A_TRACK};
 
@@ -62,7 +62,7 @@ impl Format for FormatA {
 
     ghost room = { λ s f b e known blank sound. home_place f.geometry.layout s b blank sound };
 
-    fn initialise<M: Medium>(medium: &mut M, sheet: &[u8]) -> Result<FormatA, Fault> {
+    fn initialise<M: Medium>(medium: &mut M, sheet: &Sheet) -> Result<FormatA, Fault> {
         FormatA::initialise(medium, sheet)
     }
 
@@ -70,7 +70,7 @@ impl Format for FormatA {
         FormatA::mount(medium)
     }
 
-    fn store<M: Medium>(&self, medium: &mut M, block: u32, bytes: &[u8]) -> Result<(), Fault> {
+    fn store<M: Medium>(&self, medium: &mut M, block: u32, bytes: &Block) -> Result<(), Fault> {
         FormatA::store(self, medium, block, bytes)
     }
 

@@ -10,19 +10,18 @@ ghost use Rattle.pointers.specs.Places.{blocks, home};
 ghost use Rattle.pointers.specs.Spares.{spares_of};
 
 use crate::pointer::{home_tail, image_of, spare_tail};
-use format::{burn_blank, is_blank};
-use medium::{Fault, Medium};
+use format::{Block, burn_blank, shows};
+use medium::{Fault, Medium, Reading};
 use pointers::Pointers;
 
 // Burns the spare for the home if it is blank; whether the block then rests there.
-fn try_spare<M: Medium>(medium: &mut M, spare: u32, home: u32, bytes: &[u8]) -> Result<bool, Fault>
+fn try_spare<M: Medium>(medium: &mut M, spare: u32, home: u32, bytes: &Block) -> Result<bool, Fault>
     requires inside { (spare < length (M.Medium.sectors medium.old)) × (spare < 620000) }
     requires named { home < 620000 }
-    requires whole { length bytes.now ≡ 512 }
     ensures answer { result ≡ Ok (free (M.Medium.sectors medium.old) spare) }
     ensures after { M.Medium.sectors medium.new ≡ sectors_after (M.Medium.sectors medium.old) spare (bytes.now ++ spare_tail spare home) }
 {
-    if !is_blank(medium, spare)? {
+    if !shows(medium, spare, Reading::Blank)? {
         return Ok(false);
     }
     let image = image_of(bytes, spare_tail(spare, home));
@@ -34,17 +33,16 @@ fn try_spares<M: Medium>(
     geometry: &Pointers,
     medium: &mut M,
     block: u32,
-    bytes: &[u8],
+    bytes: &Block,
 ) -> Result<bool, Fault>
     requires sized { length (M.Medium.sectors medium.old) ≡ geometry.now.sectors }
     requires there { block < blocks geometry.now.layout }
-    requires whole { length bytes.now ≡ 512 }
     ensures answer { result ≡ Ok (some_free (M.Medium.sectors medium.old) (spares_of geometry.now.layout block)) }
     ensures after { M.Medium.sectors medium.new ≡ after_burns (M.Medium.sectors medium.old) (spare_burns (M.Medium.sectors medium.old) (home geometry.now.layout block) bytes.now (spares_of geometry.now.layout block)) }
 {
     let home = geometry.home_of(block);
-    for index in 0..geometry.candidate_count() {
-        if try_spare(medium, geometry.candidate(block, index), home, bytes)? {
+    for spare in geometry.candidates(block) {
+        if try_spare(medium, spare, home, bytes)? {
             return Ok(true);
         }
     }
@@ -56,12 +54,11 @@ pub(crate) fn place<M: Medium>(
     geometry: &Pointers,
     medium: &mut M,
     block: u32,
-    bytes: &[u8],
+    bytes: &Block,
 ) -> Result<bool, Fault>
     requires sized { length (M.Medium.sectors medium.old) ≡ geometry.now.sectors }
     requires there { block < blocks geometry.now.layout }
     requires unwritten { blank_at (M.Medium.sectors medium.old) (home geometry.now.layout block) ≡ true }
-    requires whole { length bytes.now ≡ 512 }
     ensures answer { result ≡ Ok (left geometry.now.layout (M.Medium.sectors medium.old) block) }
     ensures after { M.Medium.sectors medium.new ≡ stored geometry.now.layout (M.Medium.sectors medium.old) block bytes.now }
 {

@@ -19,7 +19,6 @@ burn_copies-requires g c =
     let n = last_track geometry.sectors in
     let at = c.copies.ensures ∙ ap (λ p. copies (last_track p)) c.sector_count.ensures in
     record {
-      whole = ap length c.copy_image.ensures ∙ copy_whole geometry (sheet_length geometry);
       apart = subst Apart (sym at) (copies_apart n (size_held geometry).least);
       blank = λ i m. copies_blank geometry s (sym c.requires.sized) c.requires.blank i (subst (λ ps. Memᴰ i ps) at m);
     }

@@ -1,8 +1,9 @@
+use Rattle.std.proofs.Common.{length}
 use Rattle.pointers_format.proofs.Trying.{Trying}
 use Rattle.pointers_format.proofs.storing.try_spares.Given as goal
 use Rattle.pointers.specs.Places.{home}
 use Rattle.pointers.specs.Spares.{spares_of}
 
-abbrev pub invariant-loop-index : goal.invariant-loop-index
-invariant-loop-index g l =
-    Trying (home l.geometry.layout l.block) l.bytes (g.M.Medium.sectors l.initial.medium) (g.M.Medium.sectors l.medium) (spares_of l.geometry.layout l.block) l.index
+abbrev pub invariant-loop-spare : goal.invariant-loop-spare
+invariant-loop-spare g l =
+    Trying (home l.geometry.layout l.block) l.bytes (g.M.Medium.sectors l.initial.medium) (g.M.Medium.sectors l.medium) (spares_of l.geometry.layout l.block) (length l.yielded)

@@ -27,7 +27,7 @@ returns-in-Some g c =
     let laid = ap (λ n. sheet_read n d) (sym c.count.ensures) ∙ sym c.read.ensures.answer ∙ c.in_ok-geometry.was in
     let low = lowest_is s _ c.in_ok-sector.ensures ∙ c.in-Some.is in
     let r = begun_burnt s d _ laid _ low in
-    let a = ap Err c.fault.ensures ∙ sym r.0 in
+    let a = ap Err c.refuses.ensures ∙ sym r.0 in
     record { answer = a; after = sym r.1; meaning = initialise_means s d _ _ a (sym r.1) }
 
 pub burn_sheet-requires : goal.burn_sheet-requires
@@ -48,7 +48,7 @@ returns-then-not-branch g c =
     let was = c.in_ok-burn_sheet.was in
     let answer = c.burn_sheet.ensures.answer in
     let none : some_free s (copies (last_track f.sectors)) ≡ false = cc in
-    let a = ap Err c.fault-then-not-branch.ensures ∙ sym (r.0 ∙ cond-false (some_free s (copies (last_track f.sectors))) _ _ none) in
+    let a = ap Err c.refuses-then-not-branch.ensures ∙ sym (r.0 ∙ cond-false (some_free s (copies (last_track f.sectors))) _ _ none) in
     let t = c.burn_sheet.ensures.after ∙ sym r.1 in
     record { answer = a; after = t; meaning = initialise_means s d _ _ a t }
 
