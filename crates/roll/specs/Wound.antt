@@ -1,16 +1,16 @@
 -- The sectors of a roll once a slot is written.
-use Rattle.std.specs.Prelude.{◌≡◌, ℕ, ◌+◌, ◌-◌, ◌*◌, ◌/◌, ◌%◌, ◌^◌, ◌<◌, ◌≤◌, Bool, List, ◌++◌, length, get_or, take, drop, Some, None, Decides, Option, ◌==◌, ◌≢◌, slice_index, slice_index_or, slice_set, refl}
+use Rattle.std.specs.Prelude.{◌≡◌, ℕ, ◌+◌, ◌-◌, ◌*◌, ◌/◌, ◌%◌, ◌^◌, ◌<◌, ◌≤◌, Bool, List, ◌++◌, length, get_or, take, drop, Some, None, Decides, Option, ◌==◌, ◌≢◌, slice_index, slice_index_or, slice_set, false, is_some, refl}
 use Rattle.std.proofs.Common.{sym, ap, subst, ◌∙◌, ⊎_elim, mod-eq_of_lt, arith}
 use Rattle.std.proofs.lemmas.Nat.{div-add-mod', shr-shr, shr_below}
-use Rattle.std.proofs.lemmas.List.{same_lists, length-take, length-drop, length-append, length-take-le, get_or-take, get_or-drop, get_or_append_left, get_or-append_right, get_or-set_same, get_or-set_other}
+use Rattle.std.proofs.lemmas.List.{same_lists, length-take, length-drop, length-append, length-take-le, get_or-take, get_or-drop, get_or_append_left, get_or-append_right, get_or-set_same, get_or-set_other, length-set}
 use Rattle.std.proofs.lemmas.Bool.{cases_eq, cases_lt, eq-eqb, eqb-true}
 use Rattle.medium.specs.Sectors.{Sector, burnt, sector_at, Whole, Lawful}
 use Rattle.medium.specs.Calls.{with_burnt}
 use Rattle.roll.specs.Rolls.{RollMeans, roll_sector, roll_sectors}
-use Rattle.roll.specs.Slots.{Indexed, UsedSlots, Verdicts, four_bytes, held, number_at, slot_code, slot_image, slot_number, slot_of, verdict_at, with_slot}
+use Rattle.roll.specs.Slots.{Filled, Indexed, UsedSlots, Verdicts, four_bytes, held, number_at, slot_image, slot_number, slot_of, verdict_at, with_slot, free}
 use Rattle.medium.proofs.Parts.{part_same}
 use Rattle.medium.proofs.Rows.{length_row, row_at, row_lawful, row_burnt}
-use Rattle.roll.specs.Slotted.{Told, told, slot_is}
+use Rattle.roll.specs.Slotted.{Told, free_set, none_held, slot_is, told}
 
 joined_digits : (n a b c r s t : ℕ) → a * 256 + r ≡ n → b * 256 + s ≡ a → c * 256 + t ≡ b → c * 16777216 + t * 65536 + s * 256 + r ≡ n
 joined_digits n a b c r s t e f g = omega arith
@@ -77,14 +77,26 @@ one_slot xs p u i few l s j k a b d e =
     (cases_lt j u)
 
 -- sector i, which had no slot, is burnt into slot u, the first that is not used
-module _ (xs : List ℕ) (p u i : ℕ) (image : List ℕ) (few : p ≤ 640064) (sized : length xs ≡ 529 * p) (slots : UsedSlots xs p p u) (room : u < p) (within : i < p) (none : slot_of xs p p i ≡ None) (whole : length image ≡ 524) where
+module _ (xs : List ℕ) (p u i : ℕ) (index : List (Option ℕ)) (image : List ℕ) (few : p ≤ 640064) (sized : length xs ≡ 529 * p) (filled : Filled xs p p index u) (within : i < p) (free_now : false ≡ is_some (slice_index_or index i None)) (whole : length image ≡ 524) where
+  none : slot_of xs p p i ≡ None
+  none = sym (filled.indexed i within) ∙ none_held _ free_now
+
+  slots : UsedSlots xs p p u
+  slots = filled.slots
+
+  one_less : free (slice_set index i (Some u)) + 1 ≡ free index
+  one_less = free_set index i u (omega (arith, filled.long)) (none_held _ free_now)
+
+  pub room_left : u < p
+  room_left = omega (arith, one_less, filled.room)
+
   abbrev ys : List ℕ
   ys = with_slot xs (p + 528 * u) i image
 
   fits : p + 528 * u + 528 ≤ length xs
-  fits = omega arith
+  fits = omega (arith, room_left)
 
-  pub verdict_kept : (k : ℕ) → k < p → slice_index ys k ≡ slice_index xs k
+  verdict_kept : (k : ℕ) → k < p → slice_index ys k ≡ slice_index xs k
   verdict_kept k h = before_slot xs (p + 528 * u) i image fits whole k 0 (omega arith)
 
   other_byte : (k j d : ℕ) → (k ≢ u) → p + 528 * k ≤ j → j < p + 528 * k + 528 → slice_index_or ys j d ≡ slice_index_or xs j d
@@ -116,46 +128,55 @@ module _ (xs : List ℕ) (p u i : ℕ) (image : List ℕ) (few : p ≤ 640064) (
   alone : (k : ℕ) → k < p → slot_number xs p k ≢ i
   alone = subst (Told xs p p i) none (told xs p p i)
 
-  pub slots_kept : UsedSlots ys p p (u + 1)
+  slots_kept : UsedSlots ys p p (u + 1)
   slots_kept = (
-    omega arith,
+    omega (arith, room_left),
     (λ k l. ⊎_elim (λ e. omega (arith, number_there k e)) (λ ne. omega (arith, other_number k ne, slots.1 k (omega arith))) (cases_eq k u)),
     (λ j k h.
         ⊎_elim
-        (λ e. ⊎_elim (λ f. e ∙ sym f) (λ nf. absurd (alone k (omega (arith, h.1)) (sym (other_number k nf) ∙ sym h.2 ∙ number_there j e))) (cases_eq k u))
+        (λ e. ⊎_elim (λ f. e ∙ sym f) (λ nf. absurd (alone k (omega (arith, h.1, room_left)) (sym (other_number k nf) ∙ sym h.2 ∙ number_there j e))) (cases_eq k u))
         (λ ne.
         ⊎_elim
-        (λ f. absurd (alone j (omega (arith, h.0)) (sym (other_number j ne) ∙ h.2 ∙ number_there k f)))
+        (λ f. absurd (alone j (omega (arith, h.0, room_left)) (sym (other_number j ne) ∙ h.2 ∙ number_there k f)))
         (λ nf. slots.2 j k (omega (arith, h.0), omega (arith, h.1), sym (other_number j ne) ∙ h.2 ∙ other_number k nf))
         (cases_eq k u))
         (cases_eq j u)),
     (λ k l m. let ne : k ≡ u → ⊥ = λ e. omega arith in other_number k ne ∙ slots.3 k (omega arith) m),
   )
 
-  pub new_slot : slot_of ys p p i ≡ Some u
-  new_slot = slot_is ys p p i (Some u) (one_slot ys p (u + 1) i few within slots_kept) (room, new_number)
+  new_slot : slot_of ys p p i ≡ Some u
+  new_slot = slot_is ys p p i (Some u) (one_slot ys p (u + 1) i few within slots_kept) (room_left, new_number)
 
   -- the slot of another sector is not the one that was written
   not_new : (j k : ℕ) → j < p → slot_number xs p k ≡ j → k ≢ u
-  not_new j k l e f = omega (arith, slots.3 u (omega arith) room, ap (slot_number xs p) f)
+  not_new j k l e f = omega (arith, slots.3 u (omega arith) room_left, ap (slot_number xs p) f)
 
   told_kept : (j : ℕ) → j < p → (j ≢ i) → (o : Option ℕ) → Told xs p p j o → Told ys p p j o
   told_kept j l ne None h = λ k q e. ⊎_elim (λ f. ne (sym e ∙ number_there k f)) (λ nf. h k q (sym (other_number k nf) ∙ e)) (cases_eq k u)
   told_kept j l ne (Some k) h = (h.0, other_number k (not_new j k l h.1) ∙ h.1)
 
-  pub other_slot : (j : ℕ) → j < p → (j ≢ i) → slot_of ys p p j ≡ slot_of xs p p j
+  other_slot : (j : ℕ) → j < p → (j ≢ i) → slot_of ys p p j ≡ slot_of xs p p j
   other_slot j l ne = slot_is ys p p j (slot_of xs p p j) (one_slot ys p (u + 1) j few l slots_kept) (told_kept j l ne (slot_of xs p p j) (told xs p p j))
 
   held_kept : (j : ℕ) → j < p → (o : Option ℕ) → Told xs p p j o → held ys p o ≡ held xs p o
   held_kept j l None h = refl
   held_kept j l (Some k) h = ap burnt (other_image k (not_new j k l h.1))
 
-  pub index_kept : (index : List ℕ) → length index ≡ p → Indexed xs p p index → Indexed ys p p (slice_set index i u)
-  index_kept index long h j l =
+  index_kept : Indexed ys p p (slice_set index i (Some u))
+  index_kept j l =
       ⊎_elim
-      (λ e. ap (λ k. slice_index (slice_set index i u) k) e ∙ get_or-set_same index i u 0 (omega arith) ∙ ap slot_code (sym (ap (slot_of ys p p) e ∙ new_slot)))
-      (λ ne. get_or-set_other index i j u 0 ne ∙ h j l ∙ ap slot_code (sym (other_slot j l ne)))
+      (λ e. ap (λ k. slice_index_or (slice_set index i (Some u)) k None) e ∙ get_or-set_same index i (Some u) None (omega (arith, filled.long)) ∙ sym (ap (slot_of ys p p) e ∙ new_slot))
+      (λ ne. get_or-set_other index i j (Some u) None ne ∙ filled.indexed j l ∙ sym (other_slot j l ne))
       (cases_eq j i)
+
+  pub filled_burnt : Filled ys p p (slice_set index i (Some u)) (u + 1)
+  filled_burnt =
+      record {
+        slots = slots_kept;
+        long = length-set index i (Some u) ∙ filled.long;
+        indexed = index_kept;
+        room = omega (arith, one_less, filled.room);
+      }
 
   pub roll_burnt : roll_sectors ys p ≡ with_burnt (roll_sectors xs p) i image
   roll_burnt =
