@@ -76,7 +76,7 @@ module _ (m : Roll) (i : ℕ) (image : List ℕ) where
       free_here : false ≡ is_some (get_or index i None)
       free_here = free_now ∙ ap is_some here
 
-      pub room : u < p
+      room : u < p
       room = room_left xs p u i index image m.few m.sized m.filled inside free_here whole
 
       -- the memory once it was lent and the slot written
@@ -90,7 +90,7 @@ module _ (m : Roll) (i : ℕ) (image : List ℕ) where
         same : ws ≡ new
         same = written ∙ ap (λ zs. with_slot zs at i image) lent ∙ ap (λ n. with_slot xs n i image) begins
 
-        pub stored : vec_items v ≡ new
+        stored : vec_items v ≡ new
         stored = with_items_is m.memory ws (ap length same ∙ sized_new ∙ sym m.memory.ok.0) ∙ same
 
         abbrev Kept : List ℕ → Type 0

@@ -1,6 +1,7 @@
 // The bytes of a roll: a verdict for each sector, and then a slot for each sector that can be burnt.
+// Until they are known to be a roll's they go with a bare count; from then on methods of Roll read them.
 ghost use Rattle.std.specs.Prelude.{◌≡◌, ℕ, ◌+◌, ◌*◌, ◌≤◌, length, replicate, Decides, MatchOption, None};
-ghost use Rattle.roll.specs.Rolls.{RollFormed, RollSized};
+ghost use Rattle.roll.specs.Rolls.{RollFormed};
 ghost use Rattle.roll.specs.Slots.{Filled, Verdicts, number_at, with_slot};
 
 use medium::IMAGE_BYTES;
@@ -40,6 +41,7 @@ fn number_in(memory: &[u8], at: usize) -> u32
 }
 
 // Writes the sector's number and its image into the slot that begins at `at`.
+// The image is a slice, as the interface of a medium hands it over.
 pub(crate) fn write_slot(memory: &mut [u8], at: usize, sector: u32, image: &[u8])
     requires { (at + 528 ≤ length memory.old) × (length image.now ≡ 524) }
     ensures { memory.new ≡ with_slot memory.old at sector image.now }
@@ -51,13 +53,14 @@ pub(crate) fn write_slot(memory: &mut [u8], at: usize, sector: u32, image: &[u8]
 // Notes in an empty index which slot holds each sector, and answers how many slots are used;
 // none, where the verdicts or the slots break their form.
 pub(crate) fn fill_index(memory: &[u8], index: &mut [Option<u32>], count: u32) -> Option<u32>
-    requires { RollSized (length memory.now) count × (index.old ≡ replicate count None) }
+    requires { (length memory.now ≡ 529 * count) × (count ≤ 640064) × (index.old ≡ replicate count None) }
     ensures { MatchOption result (RollFormed memory.now count → ⊥) (λ u. Verdicts memory.now count × Filled memory.now count count index.new u) }
 {
     if !are_verdicts(memory, count) {
         return None;
     }
     let mut used = 0;
+    // By number and not by `chunks_exact`: the index keeps a slot's number, and slot_at alone says where it begins.
     for slot in 0..count {
         let number = number_in(memory, slot_at(count, slot));
         if number == UNUSED {

@@ -6,12 +6,12 @@ use Rattle.roll.proofs.slots.fill_index.Goals.{then-number-count-via-then-number
 
 pub loop-slot-init : goal.loop-slot-init
 loop-slot-init c =
-    subst (λ ys. Filled c.args.memory.now c.args.count 0 ys 0) (sym c.requires.1) (filled_none c.args.memory.now c.args.count)
+    subst (λ ys. Filled c.args.memory.now c.args.count 0 ys 0) (sym c.requires.2) (filled_none c.args.memory.now c.args.count)
 
 pub loop-slot-preserved-then-number : goal.loop-slot-preserved-then-number
 loop-slot-preserved-then-number c =
     let e = ap (number_at c.args.memory.now) c.slot_at.ensures in
-    filled_unused c.args.memory.now c.args.count c.loop-slot.slot c.loop-slot.used c.loop-slot.index c.requires.0.1 (sym (c.number_in-number.ensures ∙ e) ∙ c.if-number.true) c.loop-slot.invariant
+    filled_unused c.args.memory.now c.args.count c.loop-slot.slot c.loop-slot.used c.loop-slot.index c.requires.1 (sym (c.number_in-number.ensures ∙ e) ∙ c.if-number.true) c.loop-slot.invariant
 
 pub returns-then-number-count : goal.returns-then-number-count
 returns-then-number-count c = λ f.
@@ -22,7 +22,7 @@ returns-then-number-count c = λ f.
     let used : slot_number xs p n ≡ 4294967295 → ⊥ = λ z. c.if-number.false (e ∙ z) in
     elim c.then-number-count.branch [
       | then-number-count-via-then-number-count w ↦ broken_number xs p n f.1.0 c.loop-slot-test.true used f.1.1 (omega (arith, w.if-number-count.true))
-      | then-number-count-via-else-number-count+then-used-slot w ↦ broken_order xs p n f.1.0 c.loop-slot-test.true used f.1.1 c.loop-slot.used c.requires.0.1 c.loop-slot.invariant.slots w.if-used-slot.true
+      | then-number-count-via-else-number-count+then-used-slot w ↦ broken_order xs p n f.1.0 c.loop-slot-test.true used f.1.1 c.loop-slot.used c.requires.1 c.loop-slot.invariant.slots w.if-used-slot.true
       | then-number-count-via-else-number-count+else-used-slot+then-is_some w ↦
           broken_twice xs p n f.1.0 c.loop-slot-test.true used f.1.1 c.number_in-number.result c.loop-slot.index c.loop-slot.invariant.indexed e w.if-number-count.false w.if-is_some.ensures
     ]

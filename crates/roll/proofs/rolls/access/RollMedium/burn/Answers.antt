@@ -1,6 +1,5 @@
-use Rattle.std.proofs.Common.{true, false, Ok, Err, refl, ap, length, ◌∙◌, arith}
-use Rattle.medium.proofs.Reached.{whole_image}
-use Rattle.roll.proofs.Accessed.{after_as, burn_as, burnt_as, kept, room}
+use Rattle.std.proofs.Common.{true, false, Ok, Err, refl, ap, ◌∙◌}
+use Rattle.roll.proofs.Accessed.{after_as, burn_as, burnt_as, kept}
 use Rattle.roll.specs.Wound.{length_roll}
 use Rattle.roll.proofs.rolls.access.RollMedium.burn.Goals as goal
 
