@@ -23,7 +23,9 @@ fn are_verdicts(memory: &[u8], count: u32) -> bool
     requires { count ≤ length memory.now }
     ensures { Decides result (Verdicts memory.now count) }
 {
-    memory[..count as usize].iter().all(|verdict| *verdict <= WEAK)
+    memory[..count as usize]
+        .iter()
+        .all(|verdict| *verdict <= WEAK)
 }
 
 // Where a slot of a roll of `count` sectors begins.

@@ -10,6 +10,7 @@ use crate::slots::{NUMBER_BYTES, WEAK, slot_at, write_slot};
 use medium::{Fault, IMAGE_BYTES, Medium, Reading, Refusal, Verdict, reach};
 
 impl Roll {
+    // What the sector's verdict says.
     fn is_weak(&self, sector: u32) -> bool
         requires { sector < self.now.count }
         ensures { result ≡ (verdict_at self.now.memory.items sector == 1) }
@@ -17,6 +18,7 @@ impl Roll {
         self.memory[sector as usize] == WEAK
     }
 
+    // The image in a slot.
     fn slot_image(&self, slot: u32) -> &[u8]
         requires { slot < self.now.count }
         ensures value { result.now ≡ slot_image self.now.memory.items self.now.count slot }

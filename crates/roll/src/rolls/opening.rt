@@ -49,18 +49,14 @@ impl Roll {
 
 // Tries the size first, and then the form; answers the index, and how many slots are used.
 // Memory for the index is taken in between, since the slots are tried with its help.
-fn wind(
-    heap: Global,
-    memory: &[u8],
-    count: u32,
-) -> Result<(Vec<Option<u32>>, u32), WhyNot>
+fn wind(heap: Global, memory: &[u8], count: u32) -> Result<(Vec<Option<u32>>, u32), WhyNot>
     ensures { MatchResult result (λ r. RollSized (length memory.now) count × Verdicts memory.now count × Filled memory.now count count r.0.items r.1) (Rightly memory.now count) }
 {
     if !Roll::is_sized(memory.len(), count) {
         return Err(WhyNot::Refused(Fault::in_medium(Refusal::WrongMemory, 0)));
     }
     let mut index = vec![in heap; None; count as usize]?;
-    let used = fill_index(memory, index.as_mut_slice(), count)
-        .ok_or(Fault::in_medium(Refusal::BrokenForm, 0))?;
+    let broken = Fault::in_medium(Refusal::BrokenForm, 0);
+    let used = fill_index(memory, index.as_mut_slice(), count).ok_or(broken)?;
     Ok((index, used))
 }
