@@ -1,5 +1,5 @@
 -- What opening a roll answers, and what closing it hands back.
-use Rattle.std.specs.Prelude.{◌≡◌, ℕ, length, vec_items, Vec}
+use Rattle.std.specs.Prelude.{◌≡◌, ℕ, List, length, vec_items, Vec}
 use Rattle.roll.specs.Access.{sectors_of}
 use Rattle.roll.specs.Rolls.{RollMeans, RollOpenable, RollRefused, RollSized}
 use Rattle.roll.specs.declared.rolls.Roll.{Roll}
@@ -16,13 +16,13 @@ pub record Opened (memory : Vec ℕ Global) (count : ℕ) (r : Roll) : Type 0 wh
   pub means : RollMeans (vec_items memory) count (sectors_of r)
 
 -- the right refusal; or want of memory, which is only met where the size is right
-abbrev pub Rightly : Vec ℕ Global → ℕ → WhyNot → Type 0
-Rightly memory count (Refused f) = RollRefused (vec_items memory) count f
-Rightly memory count NoMemory = RollSized (length (vec_items memory)) count
+abbrev pub Rightly : List ℕ → ℕ → WhyNot → Type 0
+Rightly bytes count (Refused f) = RollRefused bytes count f
+Rightly bytes count NoMemory = RollSized (length bytes) count
 
 -- opening failed for the right reason, and the caller has the bytes back
 pub record NotOpened (memory : Vec ℕ Global) (count : ℕ) (u : Unopened) : Type 0 where
-  pub why : Rightly memory count u.why
+  pub why : Rightly (vec_items memory) count u.why
   pub back : u.memory ≡ memory
 
 -- roll r was closed: its bytes are handed back, and they pass every check of opening

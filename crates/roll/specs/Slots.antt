@@ -1,6 +1,7 @@
 -- The bytes of a roll of p sectors: p verdicts, one byte each, and then p slots in the order of burning.
 -- A slot is the number of a sector, in four bytes, the highest first, and then the sector's 524 bytes.
-use Rattle.std.specs.Prelude.{◌≡◌, ℕ, zero, suc, ◌+◌, ◌*◌, ◌/◌, ◌%◌, ◌<◌, ◌≤◌, cond, ◌&&◌, List, [], ◌∷◌, ◌++◌, length, take, drop, Some, None, count_by, Option, ◌==◌, nat_eq, slice_index}
+use Rattle.std.specs.Prelude.{◌≡◌, ℕ, zero, suc, ◌+◌, ◌*◌, ◌<◌, ◌≤◌, cond, ◌&&◌, List, ◌++◌, length, take, drop, Some, None, count_by, Option, ◌==◌, is_none, slice_index, slice_index_or}
+use Rattle.medium.specs.Bytes.{four_at, four_bytes}
 use Rattle.medium.specs.Calls.{reaches}
 use Rattle.medium.specs.Sectors.{State, blank, burnt, is_blank}
 
@@ -12,16 +13,9 @@ verdict_at bytes i = slice_index bytes i
 abbrev pub Verdicts : List ℕ → ℕ → Type 0
 Verdicts bytes p = (i : ℕ) → i < p → verdict_at bytes i ≤ 1
 
--- the number in the four bytes at `at`
-abbrev pub number_at : List ℕ → ℕ → ℕ
-number_at bytes at = slice_index bytes at * 16777216 + slice_index bytes (at + 1) * 65536 + slice_index bytes (at + 2) * 256 + slice_index bytes (at + 3)
-
-abbrev pub four_bytes : ℕ → List ℕ
-four_bytes n = (n / 16777216 % 256) ∷ (n / 65536 % 256) ∷ (n / 256 % 256) ∷ (n % 256) ∷ []
-
 -- the sector's number in slot k, and its image
 abbrev pub slot_number : List ℕ → ℕ → ℕ → ℕ
-slot_number bytes p k = number_at bytes (p + 528 * k)
+slot_number bytes p k = four_at bytes (p + 528 * k)
 
 abbrev pub slot_image : List ℕ → ℕ → ℕ → List ℕ
 slot_image bytes p k = take 524 (drop (p + 528 * k + 4) bytes)
@@ -52,18 +46,20 @@ abbrev pub held : List ℕ → ℕ → Option ℕ → State
 held bytes p None = blank
 held bytes p (Some k) = burnt (slot_image bytes p k)
 
--- a sector's slot as the index has it
-abbrev pub slot_code : Option ℕ → ℕ
-slot_code None = 4294967295
-slot_code (Some k) = k
-
 -- the index says of each sector which of the first n slots holds it
-abbrev pub Indexed : List ℕ → ℕ → ℕ → List ℕ → Type 0
-Indexed bytes p n index = (i : ℕ) → i < p → slice_index index i ≡ slot_code (slot_of bytes p n i)
+abbrev pub Indexed : List ℕ → ℕ → ℕ → List (Option ℕ) → Type 0
+Indexed bytes p n index = (i : ℕ) → i < p → slice_index_or index i None ≡ slot_of bytes p n i
 
 -- how many sectors have no slot
-abbrev pub free : List ℕ → ℕ
-free index = count_by (λ x. nat_eq x 4294967295) index
+abbrev pub free : List (Option ℕ) → ℕ
+free index = count_by is_none index
+
+-- of the first n slots u are used, and the index has them all
+pub record Filled (bytes : List ℕ) (p n : ℕ) (index : List (Option ℕ)) (u : ℕ) : Type 0 where
+  pub slots : UsedSlots bytes p n u
+  pub long : length index ≡ p
+  pub indexed : Indexed bytes p n index
+  pub room : free index + u ≡ p
 
 -- the bytes once a slot is written at `at`; every byte before and behind the slot is as it was
 abbrev pub with_slot : List ℕ → ℕ → ℕ → List ℕ → List ℕ

@@ -1,59 +1,48 @@
 -- The sectors of a roll once a slot is written.
-use Rattle.std.specs.Prelude.{◌≡◌, ℕ, ◌+◌, ◌-◌, ◌*◌, ◌/◌, ◌%◌, ◌^◌, ◌<◌, ◌≤◌, Bool, List, ◌++◌, length, get_or, take, drop, Some, None, Decides, Option, ◌==◌, ◌≢◌, slice_index, slice_index_or, slice_set, refl}
-use Rattle.std.proofs.Common.{sym, ap, subst, ◌∙◌, ⊎_elim, mod-eq_of_lt, arith}
-use Rattle.std.proofs.lemmas.Nat.{div-add-mod', shr-shr, shr_below}
-use Rattle.std.proofs.lemmas.List.{same_lists, length-take, length-drop, length-append, length-take-le, get_or-take, get_or-drop, get_or_append_left, get_or-append_right, get_or-set_same, get_or-set_other}
-use Rattle.std.proofs.lemmas.Bool.{cases_eq, cases_lt, eq-eqb, eqb-true}
+use Rattle.std.specs.Prelude.{◌≡◌, ℕ, ◌+◌, ◌*◌, ◌^◌, ◌<◌, ◌≤◌, Bool, List, length, take, drop, Some, None, Decides, Option, ◌==◌, ◌≢◌, slice_index, slice_index_or, slice_set, false, is_some, refl}
+use Rattle.std.proofs.Common.{sym, ap, subst, ◌∙◌, ⊎_elim, arith}
+use Rattle.std.proofs.lemmas.Grind.{common_steps}
+use Rattle.std.proofs.lemmas.Nat.{from_be_bytes-to_be_bytes_4}
+use Rattle.std.proofs.lemmas.List.{same_lists, length-take, length-drop, length-append, length-take-le, get_or-take, get_or-drop, get_or_append_left, get_or-append_right, length-set}
+use Rattle.std.proofs.lemmas.Bool.{cases_lt, eq-eqb, eqb-true}
 use Rattle.medium.specs.Sectors.{Sector, burnt, sector_at, Whole, Lawful}
 use Rattle.medium.specs.Calls.{with_burnt}
 use Rattle.roll.specs.Rolls.{RollMeans, roll_sector, roll_sectors}
-use Rattle.roll.specs.Slots.{Indexed, UsedSlots, Verdicts, four_bytes, held, number_at, slot_code, slot_image, slot_number, slot_of, verdict_at, with_slot}
+use Rattle.medium.specs.Bytes.{four_bytes, four_at}
+use Rattle.roll.specs.Slots.{Filled, Indexed, UsedSlots, Verdicts, held, slot_image, slot_number, slot_of, verdict_at, with_slot, free}
 use Rattle.medium.proofs.Parts.{part_same}
 use Rattle.medium.proofs.Rows.{length_row, row_at, row_lawful, row_burnt}
-use Rattle.roll.specs.Slotted.{Told, told, slot_is}
-
-joined_digits : (n a b c r s t : ℕ) → a * 256 + r ≡ n → b * 256 + s ≡ a → c * 256 + t ≡ b → c * 16777216 + t * 65536 + s * 256 + r ≡ n
-joined_digits n a b c r s t e f g = omega arith
-
-four_digits : (n : ℕ) → n < 2 ^ 32 → n / 16777216 % 256 * 16777216 + n / 65536 % 256 * 65536 + n / 256 % 256 * 256 + n % 256 ≡ n
-four_digits n h =
-    ap (λ c. c * 16777216 + n / 65536 % 256 * 65536 + n / 256 % 256 * 256 + n % 256) (mod-eq_of_lt (shr_below n 8 24 h))
-    ∙ joined_digits n (n / 256) (n / 65536) (n / 16777216) (n % 256) (n / 256 % 256) (n / 65536 % 256)
-    (div-add-mod' n 256)
-    (ap (λ q. q * 256 + n / 256 % 256) (sym (shr-shr n 8 8)) ∙ div-add-mod' (n / 256) 256)
-    (ap (λ q. q * 256 + n / 65536 % 256) (sym (shr-shr n 16 8)) ∙ div-add-mod' (n / 65536) 256)
+use Rattle.roll.specs.Slotted.{Told, free_set, none_held, slot_is, told}
 
 module _ (xs : List ℕ) (at n : ℕ) (image : List ℕ) (fits : at + 528 ≤ length xs) (whole : length image ≡ 524) where
   front : length (take at xs) ≡ at
   front = length-take-le at xs (omega arith)
 
   pub length_with_slot : length (with_slot xs at n image) ≡ length xs
-  length_with_slot = simp (length-append, length-take, length-drop) (omega arith)
+  length_with_slot = grind (arith, common_steps)
 
   pub before_slot : (j d : ℕ) → j < at → slice_index_or (with_slot xs at n image) j d ≡ slice_index_or xs j d
-  before_slot j d h = get_or_append_left (take at xs) _ d j (omega (arith, front)) ∙ get_or-take at xs j d h
+  before_slot j d h = grind (arith, common_steps)
 
-  in_slot : (k j d : ℕ) → at + k ≡ j → slice_index_or (with_slot xs at n image) j d ≡ slice_index_or (four_bytes n ++ (image ++ drop (at + 528) xs)) k d
-  in_slot k j d e =
-      get_or-append_right (take at xs) _ at j d front (omega arith)
-      ∙ ap (λ m. get_or (four_bytes n ++ (image ++ drop (at + 528) xs)) m d) (let q : j - at ≡ k = omega arith in q)
+  number_byte : (k j d : ℕ) → at + k ≡ j → k < 4 → slice_index_or (with_slot xs at n image) j d ≡ slice_index_or (four_bytes n) k d
+  number_byte k j d e h = grind (arith, common_steps)
 
-  pub number_with_slot : n < 2 ^ 32 → number_at (with_slot xs at n image) at ≡ n
+  pub number_with_slot : n < 2 ^ 32 → four_at (with_slot xs at n image) at ≡ n
   number_with_slot h =
-      omega (arith, in_slot 0 at 0 (omega arith), in_slot 1 (at + 1) 0 refl, in_slot 2 (at + 2) 0 refl, in_slot 3 (at + 3) 0 refl, four_digits n h)
+      omega (
+        arith,
+        number_byte 0 at 0 (omega arith) (omega arith),
+        number_byte 1 (at + 1) 0 refl (omega arith),
+        number_byte 2 (at + 2) 0 refl (omega arith),
+        number_byte 3 (at + 3) 0 refl (omega arith),
+        from_be_bytes-to_be_bytes_4 n h,
+      )
 
-  past_number : (k j d : ℕ) → at + 4 + k ≡ j → slice_index_or (with_slot xs at n image) j d ≡ slice_index_or (image ++ drop (at + 528) xs) k d
-  past_number k j d e =
-      in_slot (4 + k) j d (omega arith)
-      ∙ get_or-append_right (four_bytes n) _ 4 (4 + k) d refl (omega arith)
-      ∙ ap (λ m. get_or (image ++ drop (at + 528) xs) m d) (let q : 4 + k - 4 ≡ k = omega arith in q)
+  image_byte : (k d : ℕ) → k < 524 → slice_index_or (with_slot xs at n image) (at + 4 + k) d ≡ slice_index_or image k d
+  image_byte k d h = grind (arith, get_or-append_right, get_or_append_left, front)
 
   pub past_slot : (j d : ℕ) → at + 528 ≤ j → slice_index_or (with_slot xs at n image) j d ≡ slice_index_or xs j d
-  past_slot j d h =
-      past_number (j - at - 4) j d (omega arith)
-      ∙ get_or-append_right image _ 524 (j - at - 4) d whole (omega arith)
-      ∙ get_or-drop (at + 528) xs (j - at - 4 - 524) d
-      ∙ ap (λ m. get_or xs m d) (let q : at + 528 + (j - at - 4 - 524) ≡ j = omega arith in q)
+  past_slot j d h = grind (arith, get_or-append_right, get_or-drop, length-append, front)
 
   pub image_with_slot : take 524 (drop (at + 4) (with_slot xs at n image)) ≡ image
   image_with_slot =
@@ -65,26 +54,33 @@ module _ (xs : List ℕ) (at n : ℕ) (image : List ℕ) (fits : at + 528 ≤ le
       let m : k < 524 = omega (arith, length-take 524 (drop (at + 4) (with_slot xs at n image))) in
       get_or-take 524 (drop (at + 4) (with_slot xs at n image)) k d m
       ∙ get_or-drop (at + 4) (with_slot xs at n image) k d
-      ∙ past_number k (at + 4 + k) d refl
-      ∙ get_or_append_left image _ d k (omega arith))
+      ∙ image_byte k d m)
 
 -- one slot at most holds a sector
 pub one_slot : (xs : List ℕ) (p u i : ℕ) → p ≤ 640064 → i < p → UsedSlots xs p p u → (j k : ℕ) → j < p → k < p → slot_number xs p j ≡ i → slot_number xs p k ≡ i → j ≡ k
-one_slot xs p u i few l s j k a b d e =
-    ⊎_elim
-    (λ q. ⊎_elim (λ r. s.2 j k (q, r, d ∙ sym e)) (λ r. absurd (omega (arith, s.3 k r b))) (cases_lt k u))
-    (λ q. absurd (omega (arith, s.3 j q a)))
-    (cases_lt j u)
+one_slot xs p u i few l s j k a b d e = grind arith
 
 -- sector i, which had no slot, is burnt into slot u, the first that is not used
-module _ (xs : List ℕ) (p u i : ℕ) (image : List ℕ) (few : p ≤ 640064) (sized : length xs ≡ 529 * p) (slots : UsedSlots xs p p u) (room : u < p) (within : i < p) (none : slot_of xs p p i ≡ None) (whole : length image ≡ 524) where
+module _ (xs : List ℕ) (p u i : ℕ) (index : List (Option ℕ)) (image : List ℕ) (few : p ≤ 640064) (sized : length xs ≡ 529 * p) (filled : Filled xs p p index u) (within : i < p) (free_now : false ≡ is_some (slice_index_or index i None)) (whole : length image ≡ 524) where
+  none : slot_of xs p p i ≡ None
+  none = sym (filled.indexed i within) ∙ none_held _ free_now
+
+  slots : UsedSlots xs p p u
+  slots = filled.slots
+
+  one_less : free (slice_set index i (Some u)) + 1 ≡ free index
+  one_less = free_set index i u (omega (arith, filled.long)) (none_held _ free_now)
+
+  pub room_left : u < p
+  room_left = omega (arith, one_less, filled.room)
+
   abbrev ys : List ℕ
   ys = with_slot xs (p + 528 * u) i image
 
   fits : p + 528 * u + 528 ≤ length xs
-  fits = omega arith
+  fits = omega (arith, room_left)
 
-  pub verdict_kept : (k : ℕ) → k < p → slice_index ys k ≡ slice_index xs k
+  verdict_kept : (k : ℕ) → k < p → slice_index ys k ≡ slice_index xs k
   verdict_kept k h = before_slot xs (p + 528 * u) i image fits whole k 0 (omega arith)
 
   other_byte : (k j d : ℕ) → (k ≢ u) → p + 528 * k ≤ j → j < p + 528 * k + 528 → slice_index_or ys j d ≡ slice_index_or xs j d
@@ -107,55 +103,52 @@ module _ (xs : List ℕ) (p u i : ℕ) (image : List ℕ) (few : p ≤ 640064) (
   new_number : slot_number ys p u ≡ i
   new_number = number_with_slot xs (p + 528 * u) i image fits whole (omega arith)
 
-  number_there : (k : ℕ) → k ≡ u → slot_number ys p k ≡ i
-  number_there k e = ap (slot_number ys p) e ∙ new_number
-
   other_image : (k : ℕ) → (k ≢ u) → slot_image ys p k ≡ slot_image xs p k
   other_image k ne = part_same ys xs 524 (p + 528 * k + 4) (length_with_slot xs (p + 528 * u) i image fits whole) (λ j d low high. other_byte k j d ne (omega arith) (omega arith))
 
   alone : (k : ℕ) → k < p → slot_number xs p k ≢ i
   alone = subst (Told xs p p i) none (told xs p p i)
 
-  pub slots_kept : UsedSlots ys p p (u + 1)
-  slots_kept = (
-    omega arith,
-    (λ k l. ⊎_elim (λ e. omega (arith, number_there k e)) (λ ne. omega (arith, other_number k ne, slots.1 k (omega arith))) (cases_eq k u)),
-    (λ j k h.
-        ⊎_elim
-        (λ e. ⊎_elim (λ f. e ∙ sym f) (λ nf. absurd (alone k (omega (arith, h.1)) (sym (other_number k nf) ∙ sym h.2 ∙ number_there j e))) (cases_eq k u))
-        (λ ne.
-        ⊎_elim
-        (λ f. absurd (alone j (omega (arith, h.0)) (sym (other_number j ne) ∙ h.2 ∙ number_there k f)))
-        (λ nf. slots.2 j k (omega (arith, h.0), omega (arith, h.1), sym (other_number j ne) ∙ h.2 ∙ other_number k nf))
-        (cases_eq k u))
-        (cases_eq j u)),
-    (λ k l m. let ne : k ≡ u → ⊥ = λ e. omega arith in other_number k ne ∙ slots.3 k (omega arith) m),
-  )
+  slots_kept : UsedSlots ys p p (u + 1)
+  slots_kept =
+      let s = slots in
+      let l = room_left in
+      let e = new_number in (
+        omega arith,
+        (λ k l. grind (arith, other_number)),
+        (λ j k h. let a = other_number j in let b = other_number k in grind (arith, alone)),
+        (λ k l m. grind (arith, other_number)),
+      )
 
-  pub new_slot : slot_of ys p p i ≡ Some u
-  new_slot = slot_is ys p p i (Some u) (one_slot ys p (u + 1) i few within slots_kept) (room, new_number)
+  new_slot : slot_of ys p p i ≡ Some u
+  new_slot = slot_is ys p p i (Some u) (one_slot ys p (u + 1) i few within slots_kept) (room_left, new_number)
 
   -- the slot of another sector is not the one that was written
   not_new : (j k : ℕ) → j < p → slot_number xs p k ≡ j → k ≢ u
-  not_new j k l e f = omega (arith, slots.3 u (omega arith) room, ap (slot_number xs p) f)
+  not_new j k l e f = let s = slots in let h = room_left in grind arith
 
   told_kept : (j : ℕ) → j < p → (j ≢ i) → (o : Option ℕ) → Told xs p p j o → Told ys p p j o
-  told_kept j l ne None h = λ k q e. ⊎_elim (λ f. ne (sym e ∙ number_there k f)) (λ nf. h k q (sym (other_number k nf) ∙ e)) (cases_eq k u)
+  told_kept j l ne None h = λ k q e. let a = other_number k in let b = new_number in grind arith
   told_kept j l ne (Some k) h = (h.0, other_number k (not_new j k l h.1) ∙ h.1)
 
-  pub other_slot : (j : ℕ) → j < p → (j ≢ i) → slot_of ys p p j ≡ slot_of xs p p j
+  other_slot : (j : ℕ) → j < p → (j ≢ i) → slot_of ys p p j ≡ slot_of xs p p j
   other_slot j l ne = slot_is ys p p j (slot_of xs p p j) (one_slot ys p (u + 1) j few l slots_kept) (told_kept j l ne (slot_of xs p p j) (told xs p p j))
 
   held_kept : (j : ℕ) → j < p → (o : Option ℕ) → Told xs p p j o → held ys p o ≡ held xs p o
   held_kept j l None h = refl
   held_kept j l (Some k) h = ap burnt (other_image k (not_new j k l h.1))
 
-  pub index_kept : (index : List ℕ) → length index ≡ p → Indexed xs p p index → Indexed ys p p (slice_set index i u)
-  index_kept index long h j l =
-      ⊎_elim
-      (λ e. ap (λ k. slice_index (slice_set index i u) k) e ∙ get_or-set_same index i u 0 (omega arith) ∙ ap slot_code (sym (ap (slot_of ys p p) e ∙ new_slot)))
-      (λ ne. get_or-set_other index i j u 0 ne ∙ h j l ∙ ap slot_code (sym (other_slot j l ne)))
-      (cases_eq j i)
+  index_kept : Indexed ys p p (slice_set index i (Some u))
+  index_kept j l = let e = new_slot in grind (arith, common_steps, filled.indexed j l, filled.long, other_slot j l)
+
+  pub filled_burnt : Filled ys p p (slice_set index i (Some u)) (u + 1)
+  filled_burnt =
+      record {
+        slots = slots_kept;
+        long = length-set index i (Some u) ∙ filled.long;
+        indexed = index_kept;
+        room = omega (arith, one_less, filled.room);
+      }
 
   pub roll_burnt : roll_sectors ys p ≡ with_burnt (roll_sectors xs p) i image
   roll_burnt =

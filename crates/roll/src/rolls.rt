@@ -1,9 +1,11 @@
 // A roll while it is open: the caller's bytes, which keep its form, and an index from sectors to slots.
 ghost use Rattle.std.specs.Prelude.{◌≡◌, ℕ, ◌+◌, ◌*◌, ◌≤◌, length};
 ghost use Rattle.roll.specs.Rolls.{roll_sectors};
-ghost use Rattle.roll.specs.Slots.{Distinct, Indexed, Numbered, Unused, Verdicts, free};
+ghost use Rattle.roll.specs.Slots.{Filled, Verdicts};
+ghost use Rattle.roll.specs.declared.rolls.WhyNot.TheVariants.{NoMemory, Refused};
 
 use medium::Fault;
+use std::alloc::AllocError;
 
 pub mod access;
 pub mod opening;
@@ -11,20 +13,14 @@ pub mod opening;
 #[derive(Drop)]
 pub struct Roll {
     memory: Vec<u8>,
-    index: Vec<u32>,
+    index: Vec<Option<u32>>,
     used: u32,
     count: u32,
     ghost some: { 1 ≤ count },
     ghost few: { count ≤ 640064 },
     ghost sized: { length memory.items ≡ 529 * count },
     ghost judged: { Verdicts memory.items count },
-    ghost within: { used ≤ count },
-    ghost numbered: { Numbered memory.items count used },
-    ghost distinct: { Distinct memory.items count used },
-    ghost unused: { Unused memory.items count count used },
-    ghost long: { length index.items ≡ count },
-    ghost indexed: { Indexed memory.items count count index.items },
-    ghost room: { free index.items + used ≡ count },
+    ghost filled: { Filled memory.items count count index.items used },
     ghost row: { length (roll_sectors memory.items count) ≡ count },
 }
 
@@ -34,6 +30,22 @@ pub enum WhyNot {
     Refused(Fault),
     // There is no memory for the index.
     NoMemory,
+}
+
+impl From<Fault> for WhyNot {
+    ghost from_gives = { λ f w. w ≡ Refused f };
+
+    fn from(fault: Fault) -> WhyNot {
+        WhyNot::Refused(fault)
+    }
+}
+
+impl From<AllocError> for WhyNot {
+    ghost from_gives = { λ _ w. w ≡ NoMemory };
+
+    fn from(_error: AllocError) -> WhyNot {
+        WhyNot::NoMemory
+    }
 }
 
 // Why a roll was not opened, and the bytes that were given to open it.

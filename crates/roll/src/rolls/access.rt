@@ -1,12 +1,33 @@
 // A roll behind the interface of a medium.
-ghost use Rattle.std.specs.Prelude.{◌≡◌, length, Err};
+ghost use Rattle.std.specs.Prelude.{◌≡◌, ◌<◌, length, Err, ◌==◌};
 ghost use Rattle.medium.specs.Calls.{burning, sectors_after};
 ghost use Rattle.roll.specs.Access.{BurntInSlot, sectors_of};
+ghost use Rattle.roll.specs.Slots.{slot_image, verdict_at};
 ghost use Rattle.roll.specs.Wound.{roll_lawful};
 
 use crate::rolls::Roll;
-use crate::slots::{NO_SLOT, is_weak, slot_at, slot_image, write_slot};
-use medium::{Fault, Layer, Medium, Reading, Refusal, Verdict, reach};
+use crate::slots::{NUMBER_BYTES, WEAK, slot_at, write_slot};
+use medium::{Fault, IMAGE_BYTES, Layer, Medium, Reading, Refusal, Verdict, reach};
+
+impl Roll {
+    // What the sector's verdict says.
+    fn is_weak(&self, sector: u32) -> bool
+        requires { sector < self.now.count }
+        ensures { result ≡ (verdict_at self.now.memory.items sector == 1) }
+    {
+        self.memory[sector as usize] == WEAK
+    }
+
+    // The image in a slot.
+    fn slot_image(&self, slot: u32) -> &[u8]
+        requires { slot < self.now.count }
+        ensures value { result.now ≡ slot_image self.now.memory.items self.now.count slot }
+        ensures long { length result.now ≡ 524 }
+    {
+        let at = slot_at(self.count, slot) + NUMBER_BYTES;
+        &self.memory[at..at + IMAGE_BYTES]
+    }
+}
 
 impl Medium for Roll {
     ghost sectors = { sectors_of };
@@ -19,14 +40,13 @@ impl Medium for Roll {
 
     fn read(&self, sector: u32, image: &mut [u8]) -> Result<Reading, Fault> {
         reach(self.count, sector, image.len())?;
-        let slot = self.index[sector as usize];
-        if slot == NO_SLOT {
+        let Some(slot) = self.index[sector as usize] else {
             return Ok(Reading::Blank);
-        }
-        if is_weak(self.memory.as_slice(), sector) {
+        };
+        if self.is_weak(sector) {
             return Ok(Reading::Spoiled);
         }
-        image.copy_from_slice(slot_image(self.memory.as_slice(), self.count, slot));
+        image.copy_from_slice(self.slot_image(slot));
         Ok(Reading::Sound)
     }
 
@@ -38,13 +58,14 @@ impl Medium for Roll {
         ensures slot { BurntInSlot self.old sector image.now self.new }
     {
         reach(self.count, sector, image.len())?;
-        if self.index[sector as usize] != NO_SLOT {
+        if self.index[sector as usize].is_some() {
             return Err(Layer::Medium.refuses(Refusal::AlreadyBurnt, sector));
         }
+        let verdict = Verdict::of(self.is_weak(sector));
         let at = slot_at(self.count, self.used);
         write_slot(self.memory.as_mut_slice(), at, sector, image);
-        self.index[sector as usize] = self.used;
+        self.index[sector as usize] = Some(self.used);
         self.used += 1;
-        Ok(Verdict::of(is_weak(self.memory.as_slice(), sector)))
+        Ok(verdict)
     }
 }

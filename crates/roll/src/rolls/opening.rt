@@ -1,11 +1,11 @@
 // Opening a roll on the caller's bytes, and closing it again.
-ghost use Rattle.std.specs.Prelude.{◌≡◌, ℕ, ◌+◌, ◌*◌, ◌≤◌, length, replicate, Decides, MatchOption, MatchResult};
-ghost use Rattle.roll.specs.Opening.{Closed, NotOpened, Opened};
-ghost use Rattle.roll.specs.Rolls.{RollFormed, RollSized};
-ghost use Rattle.roll.specs.Slots.{Indexed, UsedSlots, Verdicts, free};
+ghost use Rattle.std.specs.Prelude.{length, MatchResult};
+ghost use Rattle.roll.specs.Opening.{Closed, NotOpened, Opened, Rightly};
+ghost use Rattle.roll.specs.Rolls.{RollSized};
+ghost use Rattle.roll.specs.Slots.{Filled, Verdicts};
 
 use crate::rolls::{Roll, Unopened, WhyNot};
-use crate::slots::{BYTES_A_SECTOR, NO_SLOT, are_verdicts, fill_index};
+use crate::slots::{BYTES_A_SECTOR, fill_index};
 use medium::{Layer, Refusal, is_sized};
 use std::alloc::Global;
 
@@ -15,25 +15,14 @@ impl Roll {
     pub fn open(heap: Global, memory: Vec<u8>, count: u32) -> Result<Roll, Unopened>
         ensures { MatchResult result (Opened memory count) (NotOpened memory count) }
     {
-        if !is_sized::<BYTES_A_SECTOR>(memory.len(), count) {
-            let why = WhyNot::Refused(Layer::Medium.refuses(Refusal::WrongMemory, 0));
-            return Err(Unopened { why, memory });
-        }
-        let Ok(mut index) = vec![in heap; NO_SLOT; count as usize] else {
-            let why = WhyNot::NoMemory;
-            return Err(Unopened { why, memory });
-        };
-        match wind(memory.as_slice(), index.as_mut_slice(), count) {
-            Some(used) => Ok(Roll {
+        match wind(heap, memory.as_slice(), count) {
+            Ok((index, used)) => Ok(Roll {
                 memory,
                 index,
                 used,
                 count,
             }),
-            None => {
-                let why = WhyNot::Refused(Layer::Medium.refuses(Refusal::BrokenForm, 0));
-                Err(Unopened { why, memory })
-            }
+            Err(why) => Err(Unopened { why, memory }),
         }
     }
 
@@ -51,14 +40,16 @@ impl Roll {
     }
 }
 
-// Fills the index where the bytes have the form of a roll's, and answers how many slots are used.
-fn wind(memory: &[u8], index: &mut [u32], count: u32) -> Option<u32>
-    requires { (length memory.now ≡ 529 * count) × ((index.old ≡ replicate count 4294967295) × (count ≤ 640064)) }
-    ensures { MatchOption result (RollFormed memory.now count → ⊥) (λ u. Verdicts memory.now count × UsedSlots memory.now count count u × Indexed memory.now count count index.new × (free index.new + u ≡ count)) }
+// Tries the size first, and then the form; answers the index, and how many slots are used.
+// Memory for the index is taken in between, since the slots are tried with its help.
+fn wind(heap: Global, memory: &[u8], count: u32) -> Result<(Vec<Option<u32>>, u32), WhyNot>
+    ensures { MatchResult result (λ r. RollSized (length memory.now) count × Verdicts memory.now count × Filled memory.now count count r.0.items r.1) (Rightly memory.now count) }
 {
-    if are_verdicts(memory, count) {
-        fill_index(memory, index, count)
-    } else {
-        None
+    if !is_sized::<BYTES_A_SECTOR>(memory.len(), count) {
+        return Err(Layer::Medium.refuses(Refusal::WrongMemory, 0).into());
     }
+    let mut index = vec![in heap; None; count as usize]?;
+    let broken = Layer::Medium.refuses(Refusal::BrokenForm, 0);
+    let used = fill_index(memory, index.as_mut_slice(), count).ok_or(broken)?;
+    Ok((index, used))
 }
