@@ -1,5 +1,5 @@
 -- What ranges and lists of spares give, turn by turn. No file that specs/ leads to imports this one.
-use Rattle.std.proofs.Common.{◌≡◌, ℕ, suc, ◌+◌, ◌-◌, ◌<◌, List, [], ◌∷◌, ◌++◌, length, get_or, sym, ap, ◌∙◌, ap₂, subst, refl, arith}
+use Rattle.std.proofs.Common.{◌≡◌, ℕ, suc, ◌+◌, ◌-◌, ◌<◌, ◌≤◌, List, [], ◌∷◌, ◌++◌, length, get_or, sym, ap, ◌∙◌, ap₂, subst, refl, arith}
 use mathlib.Core.List.Memᴰ
 use mathlib.Core.List.{Memᴰ}
 use Rattle.pointers.specs.Places.{run}
@@ -51,3 +51,14 @@ module _ (s t xs : List ℕ) (so_far : Yields (YieldsFirst (λ rest. rest)) s xs
   -- where nothing is left, everything was given
   pub turn_end : t ≡ [] → s ≡ xs
   turn_end none = split_so_far ∙ ap (λ ys. xs ++ ys) none ∙ append-nil xs
+
+  -- the same of the list that the iterator was made of
+  module _ (all : List ℕ) (of : s ≡ all) where
+    pub turn_in : (u : List ℕ) (x : ℕ) → t ≡ x ∷ u → (length xs < length all) × (get_or all (length xs) 0 ≡ x)
+    turn_in u x more = subst (λ ys. (length xs < length ys) × (get_or ys (length xs) 0 ≡ x)) of (turn_at u x more)
+
+    pub turn_past : t ≡ [] → length all ≤ length xs
+    turn_past none = let e = sym of ∙ turn_end none in omega (arith, ap length e)
+
+pub one_more : (xs : List ℕ) (x : ℕ) → length xs + 1 ≡ length (xs ++ x ∷ [])
+one_more xs x = omega (arith, length-append xs (x ∷ []))

@@ -1,10 +1,10 @@
 use mathlib.Core.List.{Memᴰ}
-use Rattle.std.proofs.Common.{length, Ok, sym, ap, ◌∙◌, subst, ap₂}
+use Rattle.std.proofs.Common.{Ok, sym, ap, ◌∙◌, subst, ap₂}
 use Rattle.format.specs.Sectors.{Apart, copy_burns, some_free}
 use Rattle.medium.specs.Runs.{after_burns}
 use Rattle.pointers.proofs.Ruled.{size_held}
 use Rattle.pointers.specs.Rules.{fits_format, last_track}
-use Rattle.pointers_format.specs.Begun.{copies_apart, copies_blank, copy_whole, sheet_length}
+use Rattle.pointers_format.specs.Begun.{copies_apart, copies_blank}
 use Rattle.pointers_format.specs.Copies.{copies}
 use Rattle.pointers_format.specs.Initialising.{with_copies}
 use Rattle.pointers_format.proofs.copies.burn_sheet.Goals as goal

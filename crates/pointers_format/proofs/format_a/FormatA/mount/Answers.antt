@@ -13,10 +13,10 @@ returns-in_err-geometry g c =
     let a = q.1 ∙ ap Err q.2 ∙ ap (checked s) (sym c.in_err-geometry.was ∙ c.read_geometry.ensures) in
     record { answer = a; meaning = mount_means s _ a }
 
-pub check_links-requires : goal.check_links-requires
-check_links-requires g c =
+pub invariant_of-on_medium : goal.invariant_of-on_medium
+invariant_of-on_medium g c =
     let s = g.M.Medium.sectors c.args.medium.now in
-    sym (geometry_good s c.in_ok-geometry.geometry (sym c.read_geometry.ensures ∙ c.in_ok-geometry.was)).2.size
+    record { sized = sym (geometry_good s c.in_ok-geometry.geometry (sym c.read_geometry.ensures ∙ c.in_ok-geometry.was)).2.size }
 
 pub returns-in_err-check_links : goal.returns-in_err-check_links
 unfolding mounting

@@ -5,4 +5,4 @@ pub returns : goal.returns
 returns g c =
     let a = c.record.ensures.answer in
     let t = c.record.ensures.after in
-    record { answer = a; after = t; meaning = block_stored _ _ _ _ _ _ c.requires.there c.requires.unwritten c.requires.whole a t }
+    record { answer = a; after = t; meaning = block_stored _ _ _ _ _ _ c.requires.there c.requires.unwritten c.told-bytes a t }
