@@ -5,3 +5,4 @@ pub mod Rules
 pub mod Sheets
 pub mod Reading
 pub mod Areas
+pub mod Words

@@ -1,4 +1,8 @@
 // The parts into which a layout divides a medium, for a person to read.
+ghost use Rattle.std.specs.Prelude.{Some};
+ghost use Rattle.pointers.specs.Words.{purpose_in_words};
+
+use std::fmt;
 
 // What an area is for; groups are numbered from 0 on.
 #[derive(Clone, Copy, PartialEq, Eq, Debug)]
@@ -9,6 +13,20 @@ pub enum Purpose {
     Homes(u32),
     Spares(u32),
     Unused,
+}
+
+impl fmt::Display for Purpose {
+    ghost output = { λ purpose. Some (purpose_in_words purpose) };
+
+    fn fmt<W: fmt::Write>(&self, f: &mut fmt::Formatter<W>) -> fmt::Result {
+        match self {
+            Purpose::Copies => write!(f, "copies of the layout"),
+            Purpose::Secondary => write!(f, "secondary spares"),
+            Purpose::Homes(group) => write!(f, "homes of group {group}"),
+            Purpose::Spares(group) => write!(f, "spares of group {group}"),
+            Purpose::Unused => write!(f, "not used"),
+        }
+    }
 }
 
 // An area by its first and its last sector.

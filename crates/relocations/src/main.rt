@@ -6,7 +6,7 @@ use format::{Format, address_of};
 use medium::{Fault, IMAGE_BYTES, Medium, Reading};
 use plate::{CELL_BYTES, Flaw, Plate};
 use pointers_format::FormatA;
-use std::{fmt, io};
+use std::fmt;
 
 // Ten tracks of 31 sectors.
 const POINTERS_SECTORS: u32 = 310;
@@ -95,7 +95,9 @@ fn print_spare(
 ) -> anyhow::Result<()> {
     let mut image = [0; IMAGE_BYTES];
     or_report(rt, plate.read(spare, &mut image))?;
-    let place = OnTrack(spare);
+    let Some(place) = address_of::<FormatA>(spare) else {
+        return Err(anyhow!("a spare past the last track"));
+    };
     let pointers = Bytes(&image[BLOCK_BYTES..IMAGE_BYTES]);
     println!(rt;
         "  block {block}: its home {home} is weak, it rests in {spare} ({place}), which ends {pointers}"
@@ -132,32 +134,8 @@ fn or_report<T>(rt: &HostRuntime, answer: Result<T, Fault>) -> anyhow::Result<T>
     match answer {
         Ok(value) => Ok(value),
         Err(fault) => {
-            print_fault(rt, fault)?;
+            println!(rt; "{fault}")?;
             Err(anyhow!("a call was refused"))
-        }
-    }
-}
-
-fn print_fault(rt: &HostRuntime, fault: Fault) -> io::Result<()> {
-    let number = u8::from(fault.refusal);
-    let layer = fault.layer.name();
-    let place = fault.place;
-    println!(rt; "refusal {number} of the {layer} at {place}")
-}
-
-// A sector of Format A as track and place.
-#[derive(Drop)]
-struct OnTrack(u32);
-
-impl fmt::Display for OnTrack {
-    fn fmt<W: fmt::Write>(&self, f: &mut fmt::Formatter<W>) -> fmt::Result {
-        match address_of::<FormatA>(self.0) {
-            Some(address) => {
-                let track = address.track;
-                let sector = address.sector;
-                write!(f, "{track}/{sector}")
-            }
-            None => write!(f, "none"),
         }
     }
 }

@@ -1,9 +1,8 @@
 // One layout of each format, by its areas in rising order, as a person would want to see them.
 use anyhow::anyhow;
-use format::address_of;
+use format::{Address, address_of};
 use maps::{Maps, Purpose as BandPurpose};
-use pointers::{Pointers, Purpose};
-use std::fmt;
+use pointers::Pointers;
 
 // Ten tracks of 31 sectors.
 const POINTERS_SECTORS: u32 = 310;
@@ -33,9 +32,9 @@ fn print_pointers(rt: &HostRuntime) -> anyhow::Result<()> {
         "A layout of Format A on {POINTERS_SECTORS} sectors: {blocks} blocks, by track/sector"
     )?;
     for area in layout.areas(rt.alloc())?.iter() {
-        let from = OnTrack(area.first);
-        let to = OnTrack(area.last);
-        let purpose = InWords(area.purpose);
+        let from = on_track(area.first)?;
+        let to = on_track(area.last)?;
+        let purpose = area.purpose;
         println!(rt; "  {from} to {to}: {purpose}")?;
     }
     Ok(())
@@ -73,33 +72,9 @@ fn word(purpose: BandPurpose) -> &'static str {
 }
 
 // A sector of Format A as track and place.
-#[derive(Drop)]
-struct OnTrack(u32);
-
-impl fmt::Display for OnTrack {
-    fn fmt<W: fmt::Write>(&self, f: &mut fmt::Formatter<W>) -> fmt::Result {
-        match address_of::<Pointers>(self.0) {
-            Some(address) => {
-                let track = address.track;
-                let sector = address.sector;
-                write!(f, "{track}/{sector}")
-            }
-            None => write!(f, "none"),
-        }
-    }
-}
-
-#[derive(Drop)]
-struct InWords(Purpose);
-
-impl fmt::Display for InWords {
-    fn fmt<W: fmt::Write>(&self, f: &mut fmt::Formatter<W>) -> fmt::Result {
-        match self.0 {
-            Purpose::Copies => write!(f, "copies of the layout"),
-            Purpose::Secondary => write!(f, "secondary spares"),
-            Purpose::Homes(group) => write!(f, "homes of group {group}"),
-            Purpose::Spares(group) => write!(f, "spares of group {group}"),
-            Purpose::Unused => write!(f, "not used"),
-        }
+fn on_track(sector: u32) -> anyhow::Result<Address> {
+    match address_of::<Pointers>(sector) {
+        Some(address) => Ok(address),
+        None => Err(anyhow!("an area past the last track")),
     }
 }

@@ -113,10 +113,5 @@ fn blank_roll(heap: Global) -> Result<Vec<u8>, AllocError> {
 }
 
 fn is_weak(sector: u32) -> bool {
-    for flaw in &FLAWS {
-        if flaw.covers(sector) {
-            return true;
-        }
-    }
-    false
+    FLAWS.iter().any(|flaw| flaw.covers(sector))
 }

@@ -79,11 +79,8 @@ fn print_refusals(rt: &HostRuntime, plan: &[Burn], account: &Account) -> anyhow:
 }
 
 pub(crate) fn print_fault(rt: &HostRuntime, fault: Fault) -> io::Result<()> {
-    let number = u8::from(fault.refusal);
     let meaning = meaning(fault.refusal);
-    let layer = fault.layer.name();
-    let place = fault.place;
-    println!(rt; "refusal {number} of the {layer} at {place}, {meaning}")
+    println!(rt; "{fault}, {meaning}")
 }
 
 pub(crate) fn print_why_not(rt: &HostRuntime, why: WhyNot) -> io::Result<()> {
