@@ -3,7 +3,7 @@ use Rattle.std.proofs.Common.{◌≡◌, ℕ, ◌+◌, ◌-◌, ◌*◌, ◌/◌
 use mathlib.Core.List.{Memᴰ}
 use Rattle.pointers.proofs.Members.{run_bounds}
 use Rattle.pointers.proofs.Ruled.{rules_held, size_held}
-use Rattle.pointers.specs.Places.{PlacesSound, Spare, blocks, data_start, first_track, groups_end, home, primaries, secondaries, width}
+use Rattle.pointers.specs.Places.{PlacesSound, Spare, blocks, data_start, first_track, group_start, groups_end, home, primaries, secondaries, width}
 use Rattle.pointers.specs.Rules.{LayoutRules, SecondaryTracks, last_track}
 use Rattle.pointers.specs.declared.layout.Layout.{Layout}
 use Rattle.pointers.specs.declared.pointers.Pointers.{Pointers}
@@ -146,8 +146,24 @@ module _ (n : ℕ) (l : Layout) (f : LayoutRules n l) where
   few_blocks = let high = f.before_copies in omega (arith, mul-add l.groups l.homes l.spares)
 
 -- the same, of a format on its medium
+pub group_below : (f : Pointers) (a : ℕ) → a < f.layout.groups → (data_start f.layout + (a * width f.layout + width f.layout) ≤ 31 * (last_track f.sectors - 2)) × (last_track f.sectors ≤ 19999)
+group_below f a h = (group_end (last_track f.sectors) f.layout (rules_held f) a h, (size_held f).most)
+
 pub group_of_block : (f : Pointers) (b : ℕ) → b < blocks f.layout → b / f.layout.homes < f.layout.groups
 group_of_block f b h = in_group (last_track f.sectors) f.layout (rules_held f) b h
+
+-- the first part of each says nothing: it shows `grind` where to look
+pub some_homes : (f : Pointers) → (blocks f.layout ≡ blocks f.layout) × (0 < f.layout.homes)
+some_homes f = (refl, (rules_held f).some_homes)
+
+pub room_of_zone : (f : Pointers) → (data_start f.layout ≡ data_start f.layout) × (data_start f.layout + width f.layout ≤ 619907) × (groups_end f.layout ≤ 619907)
+room_of_zone f =
+    let h = group_below f 0 (rules_held f).some_groups in
+    let e = (rules_held f).before_copies in
+    (refl, omega arith, omega arith)
+
+pub room_of_group : (f : Pointers) (a : ℕ) → a < f.layout.groups → (group_start f.layout a ≡ group_start f.layout a) × (group_start f.layout a + width f.layout ≤ 619907)
+room_of_group f a h = let k = group_below f a h in (refl, omega arith)
 
 pub home_below : (f : Pointers) (b : ℕ) → b < blocks f.layout → home f.layout b < 620000
 home_below f b h =
@@ -155,6 +171,3 @@ home_below f b h =
     let high = (rules_held f).before_copies in
     let most = (size_held f).most in
     omega arith
-
-pub group_below : (f : Pointers) (a : ℕ) → a < f.layout.groups → (data_start f.layout + (a * width f.layout + width f.layout) ≤ 31 * (last_track f.sectors - 2)) × (last_track f.sectors ≤ 19999)
-group_below f a h = (group_end (last_track f.sectors) f.layout (rules_held f) a h, (size_held f).most)
