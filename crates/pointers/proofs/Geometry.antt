@@ -1,23 +1,23 @@
 -- Homes and spares lie apart, inside the data zone and the secondary area.
-use Rattle.std.proofs.Common.{◌≡◌, ℕ, ◌+◌, ◌-◌, ◌*◌, ◌/◌, ◌%◌, ◌<◌, ◌≤◌, eqb, ◌⊎◌, sym, refl, ap, ◌∙◌, ap₂, inl, inr, ⊎_elim, mul-add, arith}
+use Rattle.std.proofs.Common.{◌≡◌, ℕ, ◌+◌, ◌-◌, ◌*◌, ◌/◌, ◌%◌, ◌<◌, ◌≤◌, ◌⊎◌, sym, refl, ap, ◌∙◌, ap₂, inl, inr, ⊎_elim, mul-add, arith}
 use mathlib.Core.List.{Memᴰ}
 use Rattle.pointers.proofs.Members.{run_bounds}
 use Rattle.pointers.proofs.Ruled.{rules_held, size_held}
-use Rattle.pointers.specs.Places.{PlacesSound, Spare, blocks, data_start, first_track, group_start, groups_end, home, primaries, secondaries, width}
+use Rattle.pointers.specs.Places.{PlacesSound, Spare, blocks, data_start, group_start, groups_end, home, primaries, secondaries, width}
 use Rattle.pointers.specs.Rules.{LayoutRules, SecondaryTracks, last_track}
 use Rattle.pointers.specs.declared.layout.Layout.{Layout}
 use Rattle.pointers.specs.declared.pointers.Pointers.{Pointers}
 use Rattle.std.proofs.lemmas.Nat.{div-mul-add, mod-mul-add, div_below, mod_below, div-add-mod', mul-add-lt}
-use Rattle.std.proofs.lemmas.Bool.{cases_Bool, cond-true, cond-false, eq-eqb, cases_eq}
+use Rattle.std.proofs.lemmas.Bool.Decides.{nat_tests}
+use Rattle.std.proofs.lemmas.Bool.{cases_eq}
 
 pub start_low : (l : Layout) → 93 ≤ data_start l
 unfolding data_start
-start_low l =
-    ⊎_elim (λ t. let e : first_track l ≡ 3 + l.secondary / 31 = cond-true _ _ _ t in omega arith) (λ t. let e : first_track l ≡ 3 = cond-false _ _ _ t in omega arith) (cases_Bool (eqb l.start 3))
+start_low l = grind (arith, nat_tests)
 
 start_behind : (l : Layout) (k : ℕ) → l.start ≡ 3 → l.secondary ≡ 31 * k → data_start l ≡ 93 + 31 * k
 unfolding data_start
-start_behind l k e w = let f : first_track l ≡ 3 + l.secondary / 31 = cond-true _ _ _ (eq-eqb _ _ e) in omega arith
+start_behind l k e w = grind (arith, nat_tests)
 
 module _ (n : ℕ) (l : Layout) (f : LayoutRules n l) where
   -- the secondary area is empty, or in front of the groups, or behind them

@@ -1,11 +1,11 @@
 -- The tests of a layout say whether it keeps the rules.
-use Rattle.std.proofs.Common.{◌≡◌, ℕ, ◌+◌, ◌-◌, ◌*◌, ◌/◌, ◌%◌, ◌≤◌, true, false, ◌&&◌, ◌||◌, eqb, leb, sym, ap, ◌∙◌, inl, inr, ⊎_elim, arith}
-use Rattle.pointers.specs.Places.{first_track, groups_end}
-use Rattle.pointers.specs.Rules.{LayoutRules, SecondaryArea, SecondaryBehind, SecondaryTracks, Sized, counts_valid, fits_format, groups_valid, last_track, layout_valid, secondary_valid}
+use Rattle.std.proofs.Common.{◌≡◌, ℕ, ◌+◌, ◌/◌, ◌%◌, ◌≤◌, true, inl, inr, ⊎_elim, arith}
+use Rattle.pointers.specs.Places.{first_track}
+use Rattle.pointers.specs.Rules.{LayoutRules, SecondaryArea, SecondaryTracks, Sized, fits_format, last_track, layout_valid, secondary_valid}
 use Rattle.pointers.specs.declared.layout.Layout.{Layout}
 use Rattle.pointers.specs.declared.pointers.Pointers.{Pointers}
 use Rattle.std.proofs.lemmas.Bool.Decides.{nat_tests}
-use Rattle.std.proofs.lemmas.Bool.{cases_eq, and_parts, and_from, or_left, or_right, or_cases, leb-true, eqb-true, le-leb, eq-eqb, ne_eqb, cases_Bool, both_ways, cond-true, cond-false, eqb-false}
+use Rattle.std.proofs.lemmas.Bool.{cases_eq}
 
 -- the size
 pub sized : (p : ℕ) → fits_format p ≡ true → Sized p (last_track p)
@@ -54,14 +54,11 @@ module _ (n : ℕ) (l : Layout) where
   unfolding layout_valid
   valid_from r =
       let area = area_valid r.area in
-      let counts : counts_valid l ≡ true = grind (arith, nat_tests) in
-      let groups : groups_valid n l ≡ true = grind (arith, nat_tests) in
-      and_from _ _ counts (and_from _ _ area groups)
+      grind (arith, nat_tests)
 
 -- the first track of the data zone is low, and fits a byte
 pub first_track_low : (l : Layout) → first_track l ≤ 3 + l.secondary / 31
-first_track_low l =
-    ⊎_elim (λ t. let e : first_track l ≡ 3 + l.secondary / 31 = cond-true _ _ _ t in omega arith) (λ t. let e : first_track l ≡ 3 = cond-false _ _ _ t in omega arith) (cases_Bool (eqb l.start 3))
+first_track_low l = grind (arith, nat_tests)
 
 pub first_track_small : (n : ℕ) (l : Layout) → layout_valid n l ≡ true → first_track l ≤ 36
 first_track_small n l v = let r = rules_of n l v in let a = first_track_low l in let b = r.most_spares in omega arith

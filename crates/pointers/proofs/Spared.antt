@@ -1,5 +1,5 @@
 -- The lists of spares: how long they are, what stands where and in which order, and what a spare may stand for.
-use Rattle.std.proofs.Common.{◌≡◌, ℕ, zero, suc, ◌+◌, ◌-◌, ◌*◌, ◌/◌, ◌%◌, ◌<◌, ◌≤◌, true, ◌&&◌, ◌||◌, eqb, ltb, leb, ◌⊎◌, List, [], ◌∷◌, ◌++◌, length, get_or, sym, refl, ap, ◌∙◌, subst, ap₂, inl, inr, ⊎_elim, add-mul, arith}
+use Rattle.std.proofs.Common.{◌≡◌, ℕ, zero, suc, ◌+◌, ◌-◌, ◌*◌, ◌/◌, ◌%◌, ◌<◌, ◌≤◌, true, ◌||◌, eqb, ◌⊎◌, List, [], ◌∷◌, ◌++◌, length, get_or, sym, refl, ap, ◌∙◌, subst, ap₂, inl, inr, ⊎_elim, add-mul, arith}
 use mathlib.Core.List.{Memᴰ}
 use Rattle.format.specs.Sectors.{Apart}
 use Rattle.pointers.proofs.Members.{Climbing, apart_append, climbing_append, climbing_apart, climbing_rising, climbing_run, get_or_run, in_run, length_run, run_bounds, split_in}
@@ -12,10 +12,10 @@ use Rattle.pointers.specs.Rules.{last_track}
 use Rattle.pointers.specs.declared.layout.Layout.{Layout}
 use Rattle.pointers.specs.declared.pointers.Pointers.{Pointers}
 use Rattle.std.specs.Prelude.{Decides, Bool}
-use Rattle.std.proofs.lemmas.Bool.Decides.{Decides-at}
+use Rattle.std.proofs.lemmas.Bool.Decides.{nat_tests, Decides-at}
 use Rattle.std.proofs.lemmas.Nat.{div-add-mod', div_below, div-mul-add, mod_below, mod-mul-add, mul-add-lt, mul-le}
 use Rattle.std.proofs.lemmas.List.{append_assoc, get_or_append_left, get_or-append_right, length-append}
-use Rattle.std.proofs.lemmas.Bool.{and_from, and_parts, cases_eq, cond-false, cond-true, eq-eqb, eqb-true, le-leb, leb-true, lt-ltb, ltb-true, ne_eqb, or_cases, or_left, or_right}
+use Rattle.std.proofs.lemmas.Bool.{and_from, and_parts, cases_eq, cond-false, cond-true, eq-eqb, eqb-true, le-leb, lt-ltb, ne_eqb, or_cases, or_left, or_right}
 
 some_below : (a b i : ℕ) → i < a * b → 0 < b
 some_below a zero i h = absurd (omega arith)
@@ -155,8 +155,7 @@ module _ (l : Layout) where
   secondary_in : (p : ℕ) → is_secondary l p ≡ true → Memᴰ p (secondaries l)
   unfolding is_secondary secondaries
   secondary_in p t =
-      let r = and_parts (leb (31 * l.start) p) (ltb p (31 * l.start + l.secondary)) t in
-      in_run (31 * l.start) l.secondary p (leb-true _ _ r.0) (ltb-true _ _ r.1)
+      in_run (31 * l.start) l.secondary p (grind (arith, nat_tests)) (grind (arith, nat_tests))
 
 module _ (n : ℕ) (l : Layout) (f : LayoutRules n l) where
   climbing_groups : (k : ℕ) → Climbing (group_spares l k)
@@ -208,16 +207,15 @@ module _ (n : ℕ) (l : Layout) (f : LayoutRules n l) where
       let p = home_at n l f b in
       let q : (home l b - data_start l) / width l < l.groups = omega arith in
       let r : (home l b - data_start l) % width l < l.homes = omega arith in
-      and_from _ _ (le-leb _ _ (home_bounds n l f b h).0) (and_from _ _ (lt-ltb _ _ q) (lt-ltb _ _ r))
+      let k = (home_bounds n l f b h).0 in
+      grind (arith, nat_tests)
 
   home_of : (h : ℕ) → is_home l h ≡ true → (b : ℕ) × (b < blocks l) × (home l b ≡ h)
   unfolding is_home blocks
   home_of h t =
-      let x = and_parts (leb (data_start l) h) (ltb ((h - data_start l) / width l) l.groups && ltb ((h - data_start l) % width l) l.homes) t in
-      let y = and_parts (ltb ((h - data_start l) / width l) l.groups) (ltb ((h - data_start l) % width l) l.homes) x.1 in
-      let low : data_start l ≤ h = leb-true _ _ x.0 in
-      let q : (h - data_start l) / width l < l.groups = ltb-true _ _ y.0 in
-      let r : (h - data_start l) % width l < l.homes = ltb-true _ _ y.1 in
+      let low : data_start l ≤ h = grind (arith, nat_tests) in
+      let q : (h - data_start l) / width l < l.groups = grind (arith, nat_tests) in
+      let r : (h - data_start l) % width l < l.homes = grind (arith, nat_tests) in
       let b : ℕ = (h - data_start l) / width l * l.homes + (h - data_start l) % width l in
       let bq : b / l.homes ≡ (h - data_start l) / width l = div-mul-add _ _ _ r in
       let br : b % l.homes ≡ (h - data_start l) % width l = mod-mul-add _ _ _ r in
