@@ -1,5 +1,5 @@
 -- The areas of a layout follow one another from the first sector to the last.
-use Rattle.std.proofs.Common.{◌≡◌, ℕ, zero, suc, ◌+◌, ◌-◌, ◌*◌, ◌<◌, ◌≤◌, true, false, ltb, List, [], ◌∷◌, ◌++◌, ◌⊎◌, inl, inr, sym, refl, ◌∙◌, subst, ⊎_elim, add-mul, arith}
+use Rattle.std.proofs.Common.{◌≡◌, ℕ, zero, suc, ◌+◌, ◌-◌, ◌*◌, ◌<◌, ◌≤◌, true, false, ltb, List, [], ◌∷◌, ◌++◌, ◌⊎◌, inl, inr, sym, refl, subst, ⊎_elim, add-mul, arith}
 use Rattle.pointers.proofs.Ruled.{rules_held, size_held}
 use Rattle.pointers.proofs.Geometry.{start_low}
 use Rattle.pointers.specs.Areas.{Joined, area, areas_before, areas_behind, areas_of, areas_of_groups, group_areas, zone_end}
@@ -74,15 +74,10 @@ module _ (n : ℕ) (l : Layout) (r : LayoutRules n l) where
       joined_append 0 (data_start l) end (areas_before l) (areas_of_groups l l.groups ++ areas_behind n l) before (joined_append (data_start l) (groups_end l) end (areas_of_groups l l.groups) (areas_behind n l) (joined_groups l l.groups) behind)
 
 -- the areas by their borders
-abbrev areas_by : Layout → ℕ → ℕ → ℕ → ℕ → ℕ → ℕ → List Area
-areas_by l front zone groups zone_end copies end =
-    (area Copies 0 front ++ area Secondary front zone) ++ (areas_of_groups l l.groups ++ (area Unused groups zone_end ++ (area Secondary zone_end copies ++ area Copies copies end)))
+abbrev pub areas_by : Layout → ℕ → ℕ → ℕ → ℕ → ℕ → List Area
+areas_by l zone groups zone_end copies end =
+    (area Copies 0 93 ++ area Secondary 93 zone) ++ (areas_of_groups l l.groups ++ (area Unused groups zone_end ++ (area Secondary zone_end copies ++ area Copies copies end)))
 
 -- six lists, each added to those before it
-added : (xs x1 x2 x3 x4 x5 x6 a1 a2 a3 a4 a5 a6 : List Area) → xs ≡ [] → x1 ≡ xs ++ a1 → x2 ≡ x1 ++ a2 → x3 ≡ x2 ++ a3 → x4 ≡ x3 ++ a4 → x5 ≡ x4 ++ a5 → x6 ≡ x5 ++ a6 → x6 ≡ (a1 ++ a2) ++ (a3 ++ (a4 ++ (a5 ++ a6)))
+pub added : (xs x1 x2 x3 x4 x5 x6 a1 a2 a3 a4 a5 a6 : List Area) → xs ≡ [] → x1 ≡ xs ++ a1 → x2 ≡ x1 ++ a2 → x3 ≡ x2 ++ a3 → x4 ≡ x3 ++ a4 → x5 ≡ x4 ++ a5 → x6 ≡ x5 ++ a6 → x6 ≡ (a1 ++ a2) ++ (a3 ++ (a4 ++ (a5 ++ a6)))
 added xs x1 x2 x3 x4 x5 x6 a1 a2 a3 a4 a5 a6 e0 e1 e2 e3 e4 e5 e6 = rw (e6, e5, e4, e3, e2, e1, e0) (simp append_assoc)
-
-pub areas_added : (n : ℕ) (l : Layout) (front zone groups zone_at copies end : ℕ) (xs x1 x2 x3 x4 x5 x6 : List Area) → front ≡ 93 → zone ≡ data_start l → groups ≡ groups_end l → zone_at ≡ zone_end n l → copies ≡ 31 * (n - 2) → end ≡ 31 * (n + 1) → xs ≡ [] → x1 ≡ xs ++ area Copies 0 front → x2 ≡ x1 ++ area Secondary front zone → x3 ≡ x2 ++ areas_of_groups l l.groups → x4 ≡ x3 ++ area Unused groups zone_at → x5 ≡ x4 ++ area Secondary zone_at copies → x6 ≡ x5 ++ area Copies copies end → x6 ≡ areas_of n l
-unfolding areas_of
-areas_added n l front zone groups zone_at copies end xs x1 x2 x3 x4 x5 x6 f z g a c e e0 e1 e2 e3 e4 e5 e6 =
-    added xs x1 x2 x3 x4 x5 x6 _ _ _ _ _ _ e0 e1 e2 e3 e4 e5 e6 ∙ λ i. areas_by l (f i) (z i) (g i) (a i) (c i) (e i)

@@ -1,13 +1,12 @@
 -- What ranges and lists of spares give, turn by turn. No file that specs/ leads to imports this one.
-use Rattle.std.proofs.Common.{◌≡◌, ℕ, suc, ◌+◌, ◌-◌, ◌<◌, List, [], ◌∷◌, ◌++◌, length, get_or, sym, ap, ◌∙◌, ap₂, subst, refl, arith}
+use Rattle.std.proofs.Common.{◌≡◌, ℕ, suc, ◌+◌, ◌-◌, List, [], ◌∷◌, ◌++◌, sym, ap, ◌∙◌, ap₂, subst, refl, arith}
 use mathlib.Core.List.Memᴰ
 use mathlib.Core.List.{Memᴰ}
 use Rattle.std.specs.List.{range_with_len}
 use Rattle.pointers.specs.Ranges.{in_range}
 use Rattle.std.proofs.iter.Yields.{nat_range_steps}
-use Rattle.std.proofs.lemmas.List.{append-nil, length-append, map-id}
+use Rattle.std.proofs.lemmas.List.{map-id}
 use Rattle.std.proofs.lemmas.Map.Iter.{rest_so_far}
-use Rattle.std.proofs.Math.Seq.{get_or-append_seam}
 use Rattle.std.specs.Iterator.{Yields, YieldsFirst}
 use Rattle.std.specs.Prelude.{Some, None}
 use Rattle.std.specs.declared.ops.Range.{Range}
@@ -39,15 +38,6 @@ module _ (s t xs : List ℕ) (so_far : Yields (YieldsFirst (λ rest. rest)) s xs
   split_so_far : s ≡ xs ++ t
   split_so_far = rest_so_far (λ y. y) xs s t so_far ∙ ap (λ ys. ys ++ t) (map-id xs)
 
-  -- what it gives next is a member, and stands behind xs
+  -- what it gives next is a member
   pub turn_within : (u : List ℕ) (x : ℕ) → t ≡ x ∷ u → Memᴰ x s
   turn_within u x more = subst (Memᴰ x) (sym split_so_far) (Memᴰ.append_right xs (subst (Memᴰ x) (sym more) (Memᴰ.head refl)))
-
-  pub turn_at : (u : List ℕ) (x : ℕ) → t ≡ x ∷ u → (length xs < length s) × (get_or s (length xs) 0 ≡ x)
-  turn_at u x more =
-      let e : s ≡ xs ++ (x ∷ u) = split_so_far ∙ ap (λ ys. xs ++ ys) more in
-      (omega (arith, ap length e, length-append xs (x ∷ u)), ap (λ ys. get_or ys (length xs) 0) e ∙ get_or-append_seam xs x u 0)
-
-  -- where nothing is left, everything was given
-  pub turn_end : t ≡ [] → s ≡ xs
-  turn_end none = split_so_far ∙ ap (λ ys. xs ++ ys) none ∙ append-nil xs

@@ -27,6 +27,7 @@ impl Pointers {
     }
 
     // The spare at a place of all groups together.
+    #[tactic(auto, using(crate::proofs::Spared::get_or_group_spares))]
     fn group_spare(&self, index: u32) -> u32
         requires { index < self.now.layout.groups * self.now.layout.spares }
         ensures { result ≡ slice_index (group_spares self.now.layout self.now.layout.groups) index }
