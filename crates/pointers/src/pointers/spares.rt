@@ -125,12 +125,11 @@ impl Pointers {
     fn is_home(&self, sector: u32) -> bool
         ensures { result ≡ is_home self.now.layout sector }
     {
-        let start = self.data_start();
+        let Some(offset) = sector.checked_sub(self.data_start()) else {
+            return false;
+        };
         let width = self.width();
-        let offset = sector.saturating_sub(start);
-        start <= sector
-            && offset / width < u32::from(self.layout.groups)
-            && offset % width < self.layout.homes
+        offset / width < u32::from(self.layout.groups) && offset % width < self.layout.homes
     }
 
     fn is_secondary(&self, sector: u32) -> bool
