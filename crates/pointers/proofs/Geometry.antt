@@ -1,23 +1,23 @@
 -- Homes and spares lie apart, inside the data zone and the secondary area.
-use Rattle.std.proofs.Common.{◌≡◌, ℕ, ◌+◌, ◌-◌, ◌*◌, ◌/◌, ◌%◌, ◌<◌, ◌≤◌, eqb, ◌⊎◌, sym, refl, ap, ◌∙◌, ap₂, inl, inr, ⊎_elim, mul-add, arith}
+use Rattle.std.proofs.Common.{◌≡◌, ℕ, ◌+◌, ◌-◌, ◌*◌, ◌/◌, ◌%◌, ◌<◌, ◌≤◌, ◌⊎◌, sym, refl, ap, ◌∙◌, ap₂, inl, inr, ⊎_elim, mul-add, arith}
 use mathlib.Core.List.{Memᴰ}
 use Rattle.pointers.proofs.Members.{run_bounds}
 use Rattle.pointers.proofs.Ruled.{rules_held, size_held}
-use Rattle.pointers.specs.Places.{PlacesSound, Spare, blocks, data_start, first_track, groups_end, home, primaries, secondaries, width}
+use Rattle.pointers.specs.Places.{PlacesSound, Spare, blocks, data_start, group_start, groups_end, home, primaries, secondaries, width}
 use Rattle.pointers.specs.Rules.{LayoutRules, SecondaryTracks, last_track}
 use Rattle.pointers.specs.declared.layout.Layout.{Layout}
 use Rattle.pointers.specs.declared.pointers.Pointers.{Pointers}
 use Rattle.std.proofs.lemmas.Nat.{div-mul-add, mod-mul-add, div_below, mod_below, div-add-mod', mul-add-lt}
-use Rattle.std.proofs.lemmas.Bool.{cases_Bool, cond-true, cond-false, eq-eqb, cases_eq}
+use Rattle.std.proofs.lemmas.Bool.Decides.{nat_tests}
+use Rattle.std.proofs.lemmas.Bool.{cases_eq}
 
 pub start_low : (l : Layout) → 93 ≤ data_start l
 unfolding data_start
-start_low l =
-    ⊎_elim (λ t. let e : first_track l ≡ 3 + l.secondary / 31 = cond-true _ _ _ t in omega arith) (λ t. let e : first_track l ≡ 3 = cond-false _ _ _ t in omega arith) (cases_Bool (eqb l.start 3))
+start_low l = grind (arith, nat_tests)
 
 start_behind : (l : Layout) (k : ℕ) → l.start ≡ 3 → l.secondary ≡ 31 * k → data_start l ≡ 93 + 31 * k
 unfolding data_start
-start_behind l k e w = let f : first_track l ≡ 3 + l.secondary / 31 = cond-true _ _ _ (eq-eqb _ _ e) in omega arith
+start_behind l k e w = grind (arith, nat_tests)
 
 module _ (n : ℕ) (l : Layout) (f : LayoutRules n l) where
   -- the secondary area is empty, or in front of the groups, or behind them
@@ -146,8 +146,24 @@ module _ (n : ℕ) (l : Layout) (f : LayoutRules n l) where
   few_blocks = let high = f.before_copies in omega (arith, mul-add l.groups l.homes l.spares)
 
 -- the same, of a format on its medium
+pub group_below : (f : Pointers) (a : ℕ) → a < f.layout.groups → (data_start f.layout + (a * width f.layout + width f.layout) ≤ 31 * (last_track f.sectors - 2)) × (last_track f.sectors ≤ 19999)
+group_below f a h = (group_end (last_track f.sectors) f.layout (rules_held f) a h, (size_held f).most)
+
 pub group_of_block : (f : Pointers) (b : ℕ) → b < blocks f.layout → b / f.layout.homes < f.layout.groups
 group_of_block f b h = in_group (last_track f.sectors) f.layout (rules_held f) b h
+
+-- the first part of each says nothing: it shows `grind` where to look
+pub some_homes : (f : Pointers) → (blocks f.layout ≡ blocks f.layout) × (0 < f.layout.homes)
+some_homes f = (refl, (rules_held f).some_homes)
+
+pub room_of_zone : (f : Pointers) → (data_start f.layout ≡ data_start f.layout) × (data_start f.layout + width f.layout ≤ 619907) × (groups_end f.layout ≤ 619907)
+room_of_zone f =
+    let h = group_below f 0 (rules_held f).some_groups in
+    let e = (rules_held f).before_copies in
+    (refl, omega arith, omega arith)
+
+pub room_of_group : (f : Pointers) (a : ℕ) → a < f.layout.groups → (group_start f.layout a ≡ group_start f.layout a) × (group_start f.layout a + width f.layout ≤ 619907)
+room_of_group f a h = let k = group_below f a h in (refl, omega arith)
 
 pub home_below : (f : Pointers) (b : ℕ) → b < blocks f.layout → home f.layout b < 620000
 home_below f b h =
@@ -155,6 +171,3 @@ home_below f b h =
     let high = (rules_held f).before_copies in
     let most = (size_held f).most in
     omega arith
-
-pub group_below : (f : Pointers) (a : ℕ) → a < f.layout.groups → (data_start f.layout + (a * width f.layout + width f.layout) ≤ 31 * (last_track f.sectors - 2)) × (last_track f.sectors ≤ 19999)
-group_below f a h = (group_end (last_track f.sectors) f.layout (rules_held f) a h, (size_held f).most)

@@ -1,5 +1,5 @@
 -- The areas of a layout follow one another from the first sector to the last.
-use Rattle.std.proofs.Common.{◌≡◌, ℕ, zero, suc, ◌+◌, ◌-◌, ◌*◌, ◌<◌, ◌≤◌, true, false, ◌||◌, eqb, ltb, List, [], ◌∷◌, ◌++◌, sym, refl, ap, ◌∙◌, subst, ⊎_elim, add-mul, arith}
+use Rattle.std.proofs.Common.{◌≡◌, ℕ, zero, suc, ◌+◌, ◌-◌, ◌*◌, ◌<◌, ◌≤◌, true, false, ltb, List, [], ◌∷◌, ◌++◌, ◌⊎◌, inl, inr, sym, refl, subst, ⊎_elim, add-mul, arith}
 use Rattle.pointers.proofs.Ruled.{rules_held, size_held}
 use Rattle.pointers.proofs.Geometry.{start_low}
 use Rattle.pointers.specs.Areas.{Joined, area, areas_before, areas_behind, areas_of, areas_of_groups, group_areas, zone_end}
@@ -11,7 +11,8 @@ use Rattle.pointers.specs.declared.areas.Purpose.TheVariants.{Copies, Secondary,
 use Rattle.pointers.specs.declared.pointers.Pointers.{Pointers}
 use Rattle.pointers.specs.declared.layout.Layout.{Layout}
 use Rattle.std.proofs.lemmas.List.{append_assoc}
-use Rattle.std.proofs.lemmas.Bool.{both_ways, cases_Bool, cond-false, cond-true, eq-eqb, ltb-false, ltb-true, or_left, or_right}
+use Rattle.std.proofs.lemmas.Bool.Decides.{nat_tests}
+use Rattle.std.proofs.lemmas.Bool.{cases_eq, cases_Bool, cond-false, cond-true, ltb-false, ltb-true}
 
 -- the start of a secondary area is a track of the medium
 pub start_exists : (n : ℕ) (l : Layout) → n ≤ 19999 → LayoutRules n l → (l.secondary ≡ 0 → ⊥) → l.start ≤ 19999
@@ -20,10 +21,6 @@ start_exists n l high r some =
 
 pub start_held : (g : Pointers) → (g.layout.secondary ≡ 0 → ⊥) → g.layout.start ≤ 19999
 start_held g some = start_exists (last_track g.sectors) g.layout (size_held g).most (rules_held g) some
-
--- a secondary area that is not in front of the groups
-pub not_front : (l : Layout) → (eqb l.secondary 0 || eqb l.start 3) ≡ false → SecondaryBehind l
-not_front l t = ((λ e. both_ways _ t (or_left _ _ (eq-eqb _ _ e))), (λ e. both_ways _ t (or_right (eqb l.secondary 0) _ (eq-eqb _ _ e))))
 
 start_before : (n : ℕ) (l : Layout) → LayoutRules n l → SecondaryBehind l → 31 * l.start ≤ 31 * (n - 2)
 start_before n l r d =
@@ -57,18 +54,12 @@ module _ (l : Layout) where
 module _ (n : ℕ) (l : Layout) (r : LayoutRules n l) where
   -- the data zone ends where its groups have room
   zone_so : (groups_end l ≤ zone_end n l) × (zone_end n l ≤ 31 * (n - 2))
-  zone_so = ⊎_elim front behind (cases_Bool (eqb l.secondary 0 || eqb l.start 3))
-    where
-      front : (eqb l.secondary 0 || eqb l.start 3) ≡ true → (groups_end l ≤ zone_end n l) × (zone_end n l ≤ 31 * (n - 2))
-      front t = let e : zone_end n l ≡ 31 * (n - 2) = cond-true _ _ _ t in let h = r.before_copies in (omega arith, omega arith)
-
-      behind : (eqb l.secondary 0 || eqb l.start 3) ≡ false → (groups_end l ≤ zone_end n l) × (zone_end n l ≤ 31 * (n - 2))
-      behind t =
-          let e : zone_end n l ≡ 31 * l.start = cond-false _ _ _ t in
-          let d : SecondaryBehind l = not_front l t in
-          let h = r.before_secondary d in
-          let b = start_before n l r d in
-          (omega arith, omega arith)
+  zone_so =
+      let h = r.before_copies in
+      let front : (l.secondary ≡ 0) ⊎ (l.start ≡ 3) → (groups_end l ≤ zone_end n l) × (zone_end n l ≤ 31 * (n - 2)) = λ e. (grind (arith, nat_tests), grind (arith, nat_tests)) in
+      let behind : SecondaryBehind l → (groups_end l ≤ zone_end n l) × (zone_end n l ≤ 31 * (n - 2)) =
+      λ d. let low = r.before_secondary d in let high = start_before n l r d in (grind (arith, nat_tests), grind (arith, nat_tests)) in
+      ⊎_elim (λ e. front (inl e)) (λ d. ⊎_elim (λ e. front (inr e)) (λ e. behind (d, e)) (cases_eq l.start 3)) (cases_eq l.secondary 0)
 
   pub areas_joined : 6 ≤ n → Joined 0 (31 * (n + 1)) (areas_of n l)
   unfolding areas_of
@@ -83,21 +74,10 @@ module _ (n : ℕ) (l : Layout) (r : LayoutRules n l) where
       joined_append 0 (data_start l) end (areas_before l) (areas_of_groups l l.groups ++ areas_behind n l) before (joined_append (data_start l) (groups_end l) end (areas_of_groups l l.groups) (areas_behind n l) (joined_groups l l.groups) behind)
 
 -- the areas by their borders
-abbrev areas_by : Layout → ℕ → ℕ → ℕ → ℕ → ℕ → ℕ → List Area
-areas_by l front zone groups zone_end copies end =
-    (area Copies 0 front ++ area Secondary front zone) ++ (areas_of_groups l l.groups ++ (area Unused groups zone_end ++ (area Secondary zone_end copies ++ area Copies copies end)))
+abbrev pub areas_by : Layout → ℕ → ℕ → ℕ → ℕ → ℕ → List Area
+areas_by l zone groups zone_end copies end =
+    (area Copies 0 93 ++ area Secondary 93 zone) ++ (areas_of_groups l l.groups ++ (area Unused groups zone_end ++ (area Secondary zone_end copies ++ area Copies copies end)))
 
 -- six lists, each added to those before it
-added : (xs x1 x2 x3 x4 x5 x6 a1 a2 a3 a4 a5 a6 : List Area) → xs ≡ [] → x1 ≡ xs ++ a1 → x2 ≡ x1 ++ a2 → x3 ≡ x2 ++ a3 → x4 ≡ x3 ++ a4 → x5 ≡ x4 ++ a5 → x6 ≡ x5 ++ a6 → x6 ≡ (a1 ++ a2) ++ (a3 ++ (a4 ++ (a5 ++ a6)))
-added xs x1 x2 x3 x4 x5 x6 a1 a2 a3 a4 a5 a6 e0 e1 e2 e3 e4 e5 e6 =
-    let f1 : x1 ≡ a1 = e1 ∙ ap (λ x. x ++ a1) e0 in
-    let f2 : x2 ≡ a1 ++ a2 = e2 ∙ ap (λ x. x ++ a2) f1 in
-    let f3 : x3 ≡ (a1 ++ a2) ++ a3 = e3 ∙ ap (λ x. x ++ a3) f2 in
-    let f4 : x4 ≡ ((a1 ++ a2) ++ a3) ++ a4 = e4 ∙ ap (λ x. x ++ a4) f3 in
-    let f5 : x5 ≡ (((a1 ++ a2) ++ a3) ++ a4) ++ a5 = e5 ∙ ap (λ x. x ++ a5) f4 in
-    e6 ∙ ap (λ x. x ++ a6) f5 ∙ append_assoc (((a1 ++ a2) ++ a3) ++ a4) a5 a6 ∙ append_assoc ((a1 ++ a2) ++ a3) a4 (a5 ++ a6) ∙ append_assoc (a1 ++ a2) a3 (a4 ++ (a5 ++ a6))
-
-pub areas_added : (n : ℕ) (l : Layout) (front zone groups zone_at copies end : ℕ) (xs x1 x2 x3 x4 x5 x6 : List Area) → front ≡ 93 → zone ≡ data_start l → groups ≡ groups_end l → zone_at ≡ zone_end n l → copies ≡ 31 * (n - 2) → end ≡ 31 * (n + 1) → xs ≡ [] → x1 ≡ xs ++ area Copies 0 front → x2 ≡ x1 ++ area Secondary front zone → x3 ≡ x2 ++ areas_of_groups l l.groups → x4 ≡ x3 ++ area Unused groups zone_at → x5 ≡ x4 ++ area Secondary zone_at copies → x6 ≡ x5 ++ area Copies copies end → x6 ≡ areas_of n l
-unfolding areas_of
-areas_added n l front zone groups zone_at copies end xs x1 x2 x3 x4 x5 x6 f z g a c e e0 e1 e2 e3 e4 e5 e6 =
-    added xs x1 x2 x3 x4 x5 x6 _ _ _ _ _ _ e0 e1 e2 e3 e4 e5 e6 ∙ λ i. areas_by l (f i) (z i) (g i) (a i) (c i) (e i)
+pub added : (xs x1 x2 x3 x4 x5 x6 a1 a2 a3 a4 a5 a6 : List Area) → xs ≡ [] → x1 ≡ xs ++ a1 → x2 ≡ x1 ++ a2 → x3 ≡ x2 ++ a3 → x4 ≡ x3 ++ a4 → x5 ≡ x4 ++ a5 → x6 ≡ x5 ++ a6 → x6 ≡ (a1 ++ a2) ++ (a3 ++ (a4 ++ (a5 ++ a6)))
+added xs x1 x2 x3 x4 x5 x6 a1 a2 a3 a4 a5 a6 e0 e1 e2 e3 e4 e5 e6 = rw (e6, e5, e4, e3, e2, e1, e0) (simp append_assoc)

@@ -1,8 +1,9 @@
 -- The lists of spares: how long they are, what stands where and in which order, and what a spare may stand for.
-use Rattle.std.proofs.Common.{◌≡◌, ℕ, zero, suc, ◌+◌, ◌-◌, ◌*◌, ◌/◌, ◌%◌, ◌<◌, ◌≤◌, true, ◌&&◌, ◌||◌, eqb, ltb, leb, ◌⊎◌, List, [], ◌∷◌, ◌++◌, length, get_or, sym, refl, ap, ◌∙◌, subst, ap₂, inl, inr, ⊎_elim, add-mul, arith}
+use Rattle.std.proofs.Common.{◌≡◌, ℕ, zero, suc, ◌+◌, ◌-◌, ◌*◌, ◌/◌, ◌%◌, ◌<◌, ◌≤◌, true, ◌||◌, eqb, ◌⊎◌, List, [], ◌∷◌, ◌++◌, length, get_or, sym, refl, ap, ◌∙◌, subst, ap₂, inl, inr, ⊎_elim, add-mul, arith}
+use mathlib.Core.List.Memᴰ
 use mathlib.Core.List.{Memᴰ}
 use Rattle.format.specs.Sectors.{Apart}
-use Rattle.pointers.proofs.Members.{Climbing, apart_append, climbing_append, climbing_apart, climbing_rising, climbing_run, get_or_run, in_run, length_run, run_bounds, split_in}
+use Rattle.pointers.proofs.Members.{Climbing, apart_append, climbing_append, climbing_apart, climbing_rising, climbing_run, in_run, run_bounds, split_in}
 use Rattle.pointers.proofs.Geometry.{area_at, group_at, home_at, home_bounds, home_split, in_group, kinds_apart, primary_bounds, primary_split, start_low}
 use Rattle.pointers.specs.Places.{Spare, blocks, data_start, groups_end, home, primaries, secondaries, width}
 use Rattle.pointers.specs.Rules.{LayoutRules}
@@ -12,10 +13,11 @@ use Rattle.pointers.specs.Rules.{last_track}
 use Rattle.pointers.specs.declared.layout.Layout.{Layout}
 use Rattle.pointers.specs.declared.pointers.Pointers.{Pointers}
 use Rattle.std.specs.Prelude.{Decides, Bool}
-use Rattle.std.proofs.lemmas.Bool.Decides.{Decides-at}
+use Rattle.std.proofs.lemmas.Bool.Decides.{nat_tests, Decides-at}
 use Rattle.std.proofs.lemmas.Nat.{div-add-mod', div_below, div-mul-add, mod_below, mod-mul-add, mul-add-lt, mul-le}
+use Rattle.std.proofs.lemmas.List.FromFn.{get_or-range_with_len, length-range_with_len}
 use Rattle.std.proofs.lemmas.List.{append_assoc, get_or_append_left, get_or-append_right, length-append}
-use Rattle.std.proofs.lemmas.Bool.{and_from, and_parts, cases_eq, cond-false, cond-true, eq-eqb, eqb-true, le-leb, leb-true, lt-ltb, ltb-true, ne_eqb, or_cases, or_left, or_right}
+use Rattle.std.proofs.lemmas.Bool.{and_from, and_parts, cases_eq, cond-false, cond-true, eq-eqb, eqb-true, le-leb, lt-ltb, ne_eqb, or_cases, or_left, or_right}
 
 some_below : (a b i : ℕ) → i < a * b → 0 < b
 some_below a zero i h = absurd (omega arith)
@@ -25,11 +27,11 @@ some_below a (suc b) i h = omega arith
 module _ (l : Layout) where
   length_primaries : (a : ℕ) → length (primaries l a) ≡ l.spares
   unfolding primaries
-  length_primaries a = length_run (data_start l + (a * width l + l.homes)) l.spares
+  length_primaries a = length-range_with_len (data_start l + (a * width l + l.homes)) l.spares
 
   length_secondaries : length (secondaries l) ≡ l.secondary
   unfolding secondaries
-  length_secondaries = length_run (31 * l.start) l.secondary
+  length_secondaries = length-range_with_len (31 * l.start) l.secondary
 
   length_groups : (k : ℕ) → length (group_spares l k) ≡ k * l.spares
   length_groups zero = omega arith
@@ -59,11 +61,11 @@ module _ (l : Layout) where
 
   get_or_primaries : (a i : ℕ) → i < l.spares → get_or (primaries l a) i 0 ≡ data_start l + (a * width l + l.homes) + i
   unfolding primaries
-  get_or_primaries a i h = get_or_run (data_start l + (a * width l + l.homes)) l.spares i h
+  get_or_primaries a i h = get_or-range_with_len (data_start l + (a * width l + l.homes)) l.spares i 0 h
 
   get_or_secondaries : (i : ℕ) → i < l.secondary → get_or (secondaries l) i 0 ≡ 31 * l.start + i
   unfolding secondaries
-  get_or_secondaries i h = get_or_run (31 * l.start) l.secondary i h
+  get_or_secondaries i h = get_or-range_with_len (31 * l.start) l.secondary i 0 h
 
   -- the spare at place i of group a, among those of all groups
   get_or_groups : (k a i : ℕ) → a < k → i < l.spares → get_or (group_spares l k) (a * l.spares + i) 0 ≡ get_or (primaries l a) i 0
@@ -120,25 +122,25 @@ module _ (l : Layout) where
 
   -- the members of the lists
   in_groups : (k : ℕ) {p : ℕ} → Memᴰ p (group_spares l k) → (a : ℕ) × (a < k) × Memᴰ p (primaries l a)
-  in_groups zero m = absurd (mathlib.Core.List.Memᴰ.not-nil m)
+  in_groups zero m = absurd (Memᴰ.not-nil m)
   in_groups (suc k) {p} m =
-      ⊎_elim (λ (u : Memᴰ p (group_spares l k)). let r = in_groups k u in (r.0, omega arith, r.2)) (λ (u : Memᴰ p (primaries l k)). (k, omega arith, u)) (mathlib.Core.List.Memᴰ.append_cases (group_spares l k) m)
+      ⊎_elim (λ (u : Memᴰ p (group_spares l k)). let r = in_groups k u in (r.0, omega arith, r.2)) (λ (u : Memᴰ p (primaries l k)). (k, omega arith, u)) (Memᴰ.append_cases (group_spares l k) m)
 
   group_in : (k a : ℕ) {p : ℕ} → a < k → Memᴰ p (primaries l a) → Memᴰ p (group_spares l k)
   group_in zero a h m = absurd (omega arith)
   group_in (suc k) a {p} h m =
-      ⊎_elim (λ (e : a ≡ k). mathlib.Core.List.Memᴰ.append_right (group_spares l k) (subst (λ x. Memᴰ p (primaries l x)) e m)) (λ (d : a ≡ k → ⊥). mathlib.Core.List.Memᴰ.append_left (primaries l k) (group_in k a (omega arith) m)) (cases_eq a k)
+      ⊎_elim (λ (e : a ≡ k). Memᴰ.append_right (group_spares l k) (subst (λ x. Memᴰ p (primaries l x)) e m)) (λ (d : a ≡ k → ⊥). Memᴰ.append_left (primaries l k) (group_in k a (omega arith) m)) (cases_eq a k)
 
   pub spare_listed : (p : ℕ) → Spare l p → Memᴰ p (all_spares l)
   spare_listed p s =
-      let first : Memᴰ p (group_spares l l.groups) → Memᴰ p (all_spares l) = λ m. all_either (Memᴰ p) (λ e. mathlib.Core.List.Memᴰ.append_right (secondaries l) m) (λ d. mathlib.Core.List.Memᴰ.append_left (secondaries l) m) in
-      let second : Memᴰ p (secondaries l) → Memᴰ p (all_spares l) = λ m. all_either (Memᴰ p) (λ e. mathlib.Core.List.Memᴰ.append_left (group_spares l l.groups) m) (λ d. mathlib.Core.List.Memᴰ.append_right (group_spares l l.groups) m) in
+      let first : Memᴰ p (group_spares l l.groups) → Memᴰ p (all_spares l) = λ m. all_either (Memᴰ p) (λ e. Memᴰ.append_right (secondaries l) m) (λ d. Memᴰ.append_left (secondaries l) m) in
+      let second : Memᴰ p (secondaries l) → Memᴰ p (all_spares l) = λ m. all_either (Memᴰ p) (λ e. Memᴰ.append_left (group_spares l l.groups) m) (λ d. Memᴰ.append_right (group_spares l l.groups) m) in
       ⊎_elim (λ u. first (group_in l.groups u.0 u.1 u.2)) second s
 
   pub listed_spare : (p : ℕ) → Memᴰ p (all_spares l) → Spare l p
   listed_spare p =
       let first : Memᴰ p (group_spares l l.groups) → Spare l p = λ m. inl (in_groups l.groups m) in
-      all_either (λ xs. Memᴰ p xs → Spare l p) (λ e m. ⊎_elim inr first (mathlib.Core.List.Memᴰ.append_cases (secondaries l) m)) (λ d m. ⊎_elim first inr (mathlib.Core.List.Memᴰ.append_cases (group_spares l l.groups) m))
+      all_either (λ xs. Memᴰ p xs → Spare l p) (λ e m. ⊎_elim inr first (Memᴰ.append_cases (secondaries l) m)) (λ d m. ⊎_elim first inr (Memᴰ.append_cases (group_spares l l.groups) m))
 
   climbing_primaries : (a : ℕ) → Climbing (primaries l a)
   unfolding primaries
@@ -155,8 +157,7 @@ module _ (l : Layout) where
   secondary_in : (p : ℕ) → is_secondary l p ≡ true → Memᴰ p (secondaries l)
   unfolding is_secondary secondaries
   secondary_in p t =
-      let r = and_parts (leb (31 * l.start) p) (ltb p (31 * l.start + l.secondary)) t in
-      in_run (31 * l.start) l.secondary p (leb-true _ _ r.0) (ltb-true _ _ r.1)
+      in_run (31 * l.start) l.secondary p (grind (arith, nat_tests)) (grind (arith, nat_tests))
 
 module _ (n : ℕ) (l : Layout) (f : LayoutRules n l) where
   climbing_groups : (k : ℕ) → Climbing (group_spares l k)
@@ -195,7 +196,7 @@ module _ (n : ℕ) (l : Layout) (f : LayoutRules n l) where
 
   pub block_listed : (b p : ℕ) → b < blocks l → Memᴰ p (spares_of l b) → Memᴰ p (all_spares l)
   unfolding spares_of
-  block_listed b p h m = spare_listed l p (⊎_elim (λ u. inl (b / l.homes, in_group n l f b h, u)) inr (mathlib.Core.List.Memᴰ.append_cases (primaries l (b / l.homes)) m))
+  block_listed b p h m = spare_listed l p (⊎_elim (λ u. inl (b / l.homes, in_group n l f b h, u)) inr (Memᴰ.append_cases (primaries l (b / l.homes)) m))
 
   pub spares_listed : SparesListed l
   spares_listed = record { rising = climbing_rising (all_spares l) climbing_all; each = spare_listed l; only = listed_spare l; of_block = block_listed }
@@ -208,16 +209,15 @@ module _ (n : ℕ) (l : Layout) (f : LayoutRules n l) where
       let p = home_at n l f b in
       let q : (home l b - data_start l) / width l < l.groups = omega arith in
       let r : (home l b - data_start l) % width l < l.homes = omega arith in
-      and_from _ _ (le-leb _ _ (home_bounds n l f b h).0) (and_from _ _ (lt-ltb _ _ q) (lt-ltb _ _ r))
+      let k = (home_bounds n l f b h).0 in
+      grind (arith, nat_tests)
 
   home_of : (h : ℕ) → is_home l h ≡ true → (b : ℕ) × (b < blocks l) × (home l b ≡ h)
   unfolding is_home blocks
   home_of h t =
-      let x = and_parts (leb (data_start l) h) (ltb ((h - data_start l) / width l) l.groups && ltb ((h - data_start l) % width l) l.homes) t in
-      let y = and_parts (ltb ((h - data_start l) / width l) l.groups) (ltb ((h - data_start l) % width l) l.homes) x.1 in
-      let low : data_start l ≤ h = leb-true _ _ x.0 in
-      let q : (h - data_start l) / width l < l.groups = ltb-true _ _ y.0 in
-      let r : (h - data_start l) % width l < l.homes = ltb-true _ _ y.1 in
+      let low : data_start l ≤ h = grind (arith, nat_tests) in
+      let q : (h - data_start l) / width l < l.groups = grind (arith, nat_tests) in
+      let r : (h - data_start l) % width l < l.homes = grind (arith, nat_tests) in
       let b : ℕ = (h - data_start l) / width l * l.homes + (h - data_start l) % width l in
       let bq : b / l.homes ≡ (h - data_start l) / width l = div-mul-add _ _ _ r in
       let br : b % l.homes ≡ (h - data_start l) % width l = mod-mul-add _ _ _ r in
@@ -235,7 +235,7 @@ module _ (n : ℕ) (l : Layout) (f : LayoutRules n l) where
       let second : Memᴰ p (secondaries l) → may_replace l p (home l b) ≡ true =
       λ u. let s = secondary_bounds l p u in
       and_from _ _ (home_is b w.1) (or_left _ _ (and_from _ _ (le-leb _ _ s.0) (lt-ltb _ _ s.1))) in
-      subst (λ x. may_replace l p x ≡ true) w.2 (⊎_elim first second (mathlib.Core.List.Memᴰ.append_cases (primaries l (b / l.homes)) w.3))
+      subst (λ x. may_replace l p x ≡ true) w.2 (⊎_elim first second (Memᴰ.append_cases (primaries l (b / l.homes)) w.3))
 
   pub may_only : (p h : ℕ) → Memᴰ p (all_spares l) → may_replace l p h ≡ true → MayReplace l p h
   unfolding may_replace spares_of
@@ -243,12 +243,12 @@ module _ (n : ℕ) (l : Layout) (f : LayoutRules n l) where
       let same = eqb ((p - data_start l) / width l) ((h - data_start l) / width l) in
       let x = and_parts (is_home l h) (is_secondary l p || same) t in
       let r = home_of h x.0 in
-      let second : Memᴰ p (secondaries l) → MayReplace l p h = λ u. (r.0, r.1, r.2, mathlib.Core.List.Memᴰ.append_right (primaries l (r.0 / l.homes)) u) in
+      let second : Memᴰ p (secondaries l) → MayReplace l p h = λ u. (r.0, r.1, r.2, Memᴰ.append_right (primaries l (r.0 / l.homes)) u) in
       let first : (a : ℕ) × (a < l.groups) × Memᴰ p (primaries l a) → MayReplace l p h =
       λ u. let s = primary_split n l f u.0 p u.2 in
       let own : (p - data_start l) / width l ≡ (h - data_start l) / width l → MayReplace l p h =
       λ e. let k : u.0 ≡ r.0 / l.homes = sym (group_at n l f p u.0 s.0 s.1 s.3).0 ∙ e ∙ ap (λ y. (y - data_start l) / width l) (sym r.2) ∙ (home_at n l f r.0).0 in
-      (r.0, r.1, r.2, mathlib.Core.List.Memᴰ.append_left (secondaries l) (subst (λ a. Memᴰ p (primaries l a)) k u.2)) in
+      (r.0, r.1, r.2, Memᴰ.append_left (secondaries l) (subst (λ a. Memᴰ p (primaries l a)) k u.2)) in
       ⊎_elim (λ v. second (secondary_in l p v)) (λ v. own (eqb-true _ _ v)) (or_cases (is_secondary l p) same x.1) in
       ⊎_elim first second (listed_spare l p m)
 
@@ -264,25 +264,25 @@ abbrev Before : List ℕ → List ℕ → ℕ → ℕ → Type 0
 Before xs ys q p = (Memᴰ q xs × Memᴰ p ys) ⊎ ((q < p) × ((Memᴰ q xs × Memᴰ p xs) ⊎ (Memᴰ q ys × Memᴰ p ys)))
 
 pub below_next : (front back : List ℕ) (q p : ℕ) → Climbing (front ++ (p ∷ back)) → Memᴰ q front → q < p
-below_next [] back q p c m = absurd (mathlib.Core.List.Memᴰ.not-nil m)
+below_next [] back q p c m = absurd (Memᴰ.not-nil m)
 below_next (x ∷ front) back q p c m =
-    ⊎_elim (λ (e : q ≡ x). let h = c.0 p (mathlib.Core.List.Memᴰ.append_right front (mathlib.Core.List.Memᴰ.head refl)) in omega arith) (λ (t : Memᴰ q front). below_next front back q p c.1 t) (mathlib.Core.List.Memᴰ.cases_cons m)
+    ⊎_elim (λ (e : q ≡ x). let h = c.0 p (Memᴰ.append_right front (Memᴰ.head refl)) in omega arith) (λ (t : Memᴰ q front). below_next front back q p c.1 t) (Memᴰ.cases_cons m)
 
 before_more : (x : ℕ) (xs ys : List ℕ) (q p : ℕ) → Before xs ys q p → Before (x ∷ xs) ys q p
-before_more x xs ys q p (inl u) = inl (mathlib.Core.List.Memᴰ.tail u.0, u.1)
-before_more x xs ys q p (inr u) = inr (u.0, ⊎_elim (λ v. inl (mathlib.Core.List.Memᴰ.tail v.0, mathlib.Core.List.Memᴰ.tail v.1)) inr u.1)
+before_more x xs ys q p (inl u) = inl (Memᴰ.tail u.0, u.1)
+before_more x xs ys q p (inr u) = inr (u.0, ⊎_elim (λ v. inl (Memᴰ.tail v.0, Memᴰ.tail v.1)) inr u.1)
 
 before_split : (xs ys front back : List ℕ) (q p : ℕ) → Climbing xs → Climbing ys → xs ++ ys ≡ front ++ (p ∷ back) → Memᴰ q front → Before xs ys q p
 before_split [] ys front back q p c d e m =
-    inr (below_next front back q p (subst Climbing e d) m, inr (subst (Memᴰ q) (sym e) (mathlib.Core.List.Memᴰ.append_left (p ∷ back) m), subst (Memᴰ p) (sym e) (mathlib.Core.List.Memᴰ.append_right front (mathlib.Core.List.Memᴰ.head refl))))
-before_split (x ∷ xs) ys [] back q p c d e m = absurd (mathlib.Core.List.Memᴰ.not-nil m)
+    inr (below_next front back q p (subst Climbing e d) m, inr (subst (Memᴰ q) (sym e) (Memᴰ.append_left (p ∷ back) m), subst (Memᴰ p) (sym e) (Memᴰ.append_right front (Memᴰ.head refl))))
+before_split (x ∷ xs) ys [] back q p c d e m = absurd (Memᴰ.not-nil m)
 before_split (x ∷ xs) ys (y ∷ front) back q p c d e m =
     let same : x ≡ y = cc in
     let rest : xs ++ ys ≡ front ++ (p ∷ back) = cc in
     let here : q ≡ y → Before (x ∷ xs) ys q p =
-    λ i. let first : Memᴰ q (x ∷ xs) = mathlib.Core.List.Memᴰ.head (i ∙ sym same) in
-    ⊎_elim (λ u. let h = c.0 p u in inr (omega arith, inl (first, mathlib.Core.List.Memᴰ.tail u))) (λ u. inl (first, u)) (mathlib.Core.List.Memᴰ.append_cases xs (subst (Memᴰ p) (sym rest) (mathlib.Core.List.Memᴰ.append_right front (mathlib.Core.List.Memᴰ.head refl)))) in
-    ⊎_elim here (λ t. before_more x xs ys q p (before_split xs ys front back q p c.1 d rest t)) (mathlib.Core.List.Memᴰ.cases_cons m)
+    λ i. let first : Memᴰ q (x ∷ xs) = Memᴰ.head (i ∙ sym same) in
+    ⊎_elim (λ u. let h = c.0 p u in inr (omega arith, inl (first, Memᴰ.tail u))) (λ u. inl (first, u)) (Memᴰ.append_cases xs (subst (Memᴰ p) (sym rest) (Memᴰ.append_right front (Memᴰ.head refl)))) in
+    ⊎_elim here (λ t. before_more x xs ys q p (before_split xs ys front back q p c.1 d rest t)) (Memᴰ.cases_cons m)
 
 module _ (xs ys : List ℕ) (kinds : (x : ℕ) → Memᴰ x xs → Memᴰ x ys → ⊥) where
   not_both : (q p : ℕ) → Before xs ys q p → Before xs ys p q → ⊥
@@ -292,17 +292,17 @@ module _ (xs ys : List ℕ) (kinds : (x : ℕ) → Memᴰ x xs → Memᴰ x ys �
   not_both q p (inr u) (inr v) = omega arith
 
   before_in : (q p : ℕ) → Before xs ys q p → Memᴰ q (xs ++ ys)
-  before_in q p (inl u) = mathlib.Core.List.Memᴰ.append_left ys u.0
-  before_in q p (inr u) = ⊎_elim (λ v. mathlib.Core.List.Memᴰ.append_left ys v.0) (λ v. mathlib.Core.List.Memᴰ.append_right xs v.0) u.1
+  before_in q p (inl u) = Memᴰ.append_left ys u.0
+  before_in q p (inr u) = ⊎_elim (λ v. Memᴰ.append_left ys v.0) (λ v. Memᴰ.append_right xs v.0) u.1
 
   split_before : (front back : List ℕ) (q p : ℕ) → Climbing xs → Climbing ys → xs ++ ys ≡ front ++ (p ∷ back) → Before xs ys q p → Memᴰ q front
   split_before front back q p c d e b =
       let itself : q ≡ p → Memᴰ q front = λ i. absurd (let o = subst (Before xs ys q) (sym i) b in not_both q q o o) in
       let later : Memᴰ q back → Memᴰ q front =
       λ m. let s = split_in back m in
-      let o = before_split xs ys (front ++ (p ∷ s.0)) s.1 p q c d (e ∙ ap (λ zs. front ++ (p ∷ zs)) s.2 ∙ sym (append_assoc front (p ∷ s.0) (q ∷ s.1))) (mathlib.Core.List.Memᴰ.append_right front (mathlib.Core.List.Memᴰ.head refl)) in
+      let o = before_split xs ys (front ++ (p ∷ s.0)) s.1 p q c d (e ∙ ap (λ zs. front ++ (p ∷ zs)) s.2 ∙ sym (append_assoc front (p ∷ s.0) (q ∷ s.1))) (Memᴰ.append_right front (Memᴰ.head refl)) in
       absurd (not_both q p b o) in
-      ⊎_elim (λ m. m) (λ m. ⊎_elim itself later (mathlib.Core.List.Memᴰ.cases_cons m)) (mathlib.Core.List.Memᴰ.append_cases front (subst (Memᴰ q) e (before_in q p b)))
+      ⊎_elim (λ m. m) (λ m. ⊎_elim itself later (Memᴰ.cases_cons m)) (Memᴰ.append_cases front (subst (Memᴰ q) e (before_in q p b)))
 
 -- the order in which the spares of a block are tried: those in front of p, wherever the list is split at it
 pub front_tried : (l : Layout) (b : ℕ) (front back : List ℕ) (q p : ℕ) → spares_of l b ≡ front ++ (p ∷ back) → Memᴰ q front → TriedBefore l b q p

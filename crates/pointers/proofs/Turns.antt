@@ -2,7 +2,7 @@
 use Rattle.std.proofs.Common.{◌≡◌, ℕ, suc, ◌+◌, ◌-◌, ◌<◌, ◌≤◌, List, [], ◌∷◌, ◌++◌, length, get_or, sym, ap, ◌∙◌, ap₂, subst, refl, arith}
 use mathlib.Core.List.Memᴰ
 use mathlib.Core.List.{Memᴰ}
-use Rattle.pointers.specs.Places.{run}
+use Rattle.std.specs.List.{range_with_len}
 use Rattle.pointers.specs.Ranges.{in_range}
 use Rattle.std.proofs.iter.Yields.{nat_range_steps}
 use Rattle.std.proofs.lemmas.List.{append-nil, length-append, map-id}
@@ -19,8 +19,8 @@ range_first s t x h =
     let some = h.1.0 in
     let more = h.1.2 in
     let left : s.end - s.start ≡ suc (t.end - t.start) = omega arith in
-    let next : suc s.start ≡ t.start = omega arith in
-    ap (run s.start) left ∙ ap₂ (λ y a. y ∷ run a (t.end - t.start)) (sym h.1.1) next
+    let next : s.start + 1 ≡ t.start = omega arith in
+    ap (range_with_len s.start) left ∙ ap₂ (λ y a. y ∷ range_with_len a (t.end - t.start)) (sym h.1.1) next
 
 pub range_done : (s t : Range ℕ) → nat_range_steps s None t → (in_range s ≡ []) × (in_range t ≡ [])
 range_done s t h =
@@ -28,18 +28,18 @@ range_done s t h =
     let same = h.1.1 in
     let none = h.1.0 in
     let left : t.end - t.start ≡ 0 = omega arith in
-    (ap (run s.start) none, ap (run t.start) left)
+    (ap (range_with_len s.start) none, ap (range_with_len t.start) left)
 
 -- the numbers from a on up to b
-pub in_range_run : (a b k : ℕ) → b ≡ a + k → in_range (record { start = a; end = b }) ≡ run a k
-in_range_run a b k e = let left : b - a ≡ k = omega arith in ap (run a) left
+pub in_range_run : (a b k : ℕ) → b ≡ a + k → in_range (record { start = a; end = b }) ≡ range_with_len a k
+in_range_run a b k e = let left : b - a ≡ k = omega arith in ap (range_with_len a) left
 
 -- an iterator that shows what it has left began at s, gave xs, and has t left
 module _ (s t xs : List ℕ) (so_far : Yields (YieldsFirst (λ rest. rest)) s xs t) where
   split_so_far : s ≡ xs ++ t
   split_so_far = rest_so_far (λ y. y) xs s t so_far ∙ ap (λ ys. ys ++ t) (map-id xs)
 
-  -- what it gives next is a member, and stands behind xs
+  -- what it gives next is a member
   pub turn_within : (u : List ℕ) (x : ℕ) → t ≡ x ∷ u → Memᴰ x s
   turn_within u x more = subst (Memᴰ x) (sym split_so_far) (Memᴰ.append_right xs (subst (Memᴰ x) (sym more) (Memᴰ.head refl)))
 

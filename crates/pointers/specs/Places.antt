@@ -1,12 +1,8 @@
 -- Where the homes and the spares of a layout lie, by sector numbers. A track has 31 sectors.
-use Rattle.std.specs.Prelude.{◌≡◌, ℕ, zero, suc, ◌+◌, ◌-◌, ◌*◌, ◌/◌, ◌%◌, ◌<◌, ◌≤◌, cond, ◌⊎◌, List, [], ◌∷◌, ◌==◌}
+use Rattle.std.specs.Prelude.{◌≡◌, ℕ, ◌+◌, ◌-◌, ◌*◌, ◌/◌, ◌%◌, ◌<◌, ◌≤◌, cond, ◌⊎◌, List, ◌==◌}
+use Rattle.std.specs.List.{range_with_len}
 use mathlib.Core.List.{Memᴰ}
 use Rattle.pointers.specs.declared.layout.Layout.{Layout}
-
--- k numbers from a on
-abbrev pub run : ℕ → ℕ → List ℕ
-run a zero = []
-run a (suc k) = a ∷ run (suc a) k
 
 -- the first track of the data zone: behind the secondary area, where that starts at track 3
 abbrev pub first_track : Layout → ℕ
@@ -38,11 +34,11 @@ home l b = data_start l + (b / l.homes * width l + b % l.homes)
 
 -- the spares of group a, which follow its homes
 unfoldable pub primaries : Layout → ℕ → List ℕ
-primaries l a = run (data_start l + (a * width l + l.homes)) l.spares
+primaries l a = range_with_len (data_start l + (a * width l + l.homes)) l.spares
 
 -- the secondary spares, which serve every group
 unfoldable pub secondaries : Layout → List ℕ
-secondaries l = run (31 * l.start) l.secondary
+secondaries l = range_with_len (31 * l.start) l.secondary
 
 -- p is a spare: of one of the groups, or a secondary one
 abbrev pub Spare : Layout → ℕ → Type 0

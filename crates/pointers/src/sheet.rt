@@ -1,6 +1,7 @@
 // The bytes of a layout, read and written.
-ghost use Rattle.std.specs.Prelude.{◌≡◌, ◌+◌, ◌≤◌, ◌++◌, length, take, drop};
+ghost use Rattle.std.specs.Prelude.{◌≡◌, ◌+◌, ◌≤◌, ◌++◌, ◌&&◌, length, take, drop};
 ghost use Rattle.pointers.specs.Places.{first_track};
+ghost use Rattle.pointers.specs.Rules.{layout_valid};
 ghost use Rattle.pointers.specs.Sheets.{head, layout_in, marked, sheet_of};
 
 use crate::layout::Layout;
@@ -33,7 +34,7 @@ fn head(first_track: u8) -> [u8; 4]
 
 // Whether the bytes are there that every sheet has.
 #[tactic(auto, unfolding(crate::specs::Sheets::marked))]
-pub(crate) fn is_marked(sheet: &Sheet, first_track: u8) -> bool
+fn is_marked(sheet: &Sheet, first_track: u8) -> bool
     ensures { result ≡ marked first_track sheet.now }
 {
     sheet[..GROUPS] == head(first_track)[..] && sheet[GAP..START] == FILLED_GAP[..]
@@ -59,6 +60,13 @@ impl Layout {
             start: four_at(sheet, START),
             secondary: four_at(sheet, SECONDARY),
         }
+    }
+
+    // Whether the layout, which the sheet gave, keeps the rules, and the bytes around it are as in every sheet.
+    pub(crate) fn stands(&self, last: u32, sheet: &Sheet) -> bool
+        ensures { result ≡ (layout_valid last self.now && marked (first_track self.now) sheet.now) }
+    {
+        self.is_valid(last) && is_marked(sheet, self.first_track() as u8)
     }
 
     // The sheet that gives the layout.

@@ -37,9 +37,10 @@ impl Pointers {
         if self.layout.secondary == 0 || self.layout.start == FIRST_FREE_TRACK {
             return self.copies_start();
         }
-        SECTORS_A_TRACK * self.layout.start
+        self.secondary_start()
     }
 
+    #[tactic(auto, using(crate::proofs::Geometry::room_of_group))]
     fn add_group(&self, areas: &mut Vec<Area>, group: u32) -> Result<(), AllocError>
         requires { group < self.now.layout.groups }
         ensures { OnOk result (areas.new.items ≡ areas.old.items ++ group_areas self.now.layout group) }

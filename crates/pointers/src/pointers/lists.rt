@@ -85,7 +85,7 @@ impl Pointers {
     }
 
     // The spares that come into question for a block, in the order in which they are tried.
-    #[tactic(auto, using(crate::proofs::Geometry::group_of_block), unfolding(crate::specs::Spares::spares_of))]
+    #[tactic(auto, using(crate::proofs::Geometry::group_of_block, crate::proofs::Geometry::some_homes), unfolding(crate::specs::Spares::spares_of))]
     pub fn candidates(&self, block: u32) -> Candidates
         requires { block < blocks self.now.layout }
         ensures { result ≡ spares_of self.now.layout block }

@@ -1,5 +1,5 @@
 // Where the homes of blocks lie.
-ghost use Rattle.std.specs.Prelude.{◌≡◌, ◌+◌, ◌*◌, ◌/◌, ◌%◌, ◌<◌, ◌≤◌};
+ghost use Rattle.std.specs.Prelude.{◌≡◌, ◌≢◌, ◌+◌, ◌*◌, ◌^◌, ◌/◌, ◌%◌, ◌<◌, ◌≤◌};
 ghost use Rattle.pointers.specs.Places.{PlacesSound, blocks, data_start, group_start, groups_end, home, width};
 ghost use Rattle.pointers.specs.Rules.{last_track};
 
@@ -22,6 +22,7 @@ impl Pointers {
     }
 
     // The first sector of the data zone.
+    #[tactic(auto, using(crate::proofs::Geometry::room_of_zone))]
     pub(crate) fn data_start(&self) -> u32
         ensures { result ≡ data_start self.now.layout }
     {
@@ -37,6 +38,7 @@ impl Pointers {
     }
 
     // The first sector of a group.
+    #[tactic(auto, using(crate::proofs::Geometry::room_of_group))]
     pub(crate) fn group_start(&self, group: u32) -> u32
         requires { group < self.now.layout.groups }
         ensures { result ≡ group_start self.now.layout group }
@@ -45,14 +47,24 @@ impl Pointers {
     }
 
     // The first sector behind the groups.
+    #[tactic(auto, using(crate::proofs::Geometry::room_of_zone))]
     pub(crate) fn groups_end(&self) -> u32
         ensures { result ≡ groups_end self.now.layout }
     {
         self.layout.groups_end() as u32
     }
 
+    // The first sector of the secondary area, where there is one.
+    pub(crate) fn secondary_start(&self) -> u32
+        requires { self.now.layout.secondary ≢ 0 }
+        ensures value { result ≡ 31 * self.now.layout.start }
+        ensures low { result + self.now.layout.secondary < 2 ^ 20 }
+    {
+        SECTORS_A_TRACK * self.layout.start
+    }
+
     // The sector in which a block comes to lie, if that is sound.
-    #[tactic(auto, using(crate::proofs::Geometry::home_below), unfolding(crate::specs::Places::home))]
+    #[tactic(auto, using(crate::proofs::Geometry::home_below, crate::proofs::Geometry::some_homes), unfolding(crate::specs::Places::home))]
     pub fn home_of(&self, block: u32) -> u32
         requires { block < blocks self.now.layout }
         ensures { result ≡ home self.now.layout block }

@@ -1,13 +1,11 @@
 // The format on a medium, by the sheet of its layout.
 ghost use Rattle.std.specs.Prelude.{◌≡◌, ◌&&◌, Ok, MatchResult};
-ghost use Rattle.pointers.specs.Places.{first_track};
 ghost use Rattle.pointers.specs.Reading.{SheetRead, SheetRefused, sheet_read};
-ghost use Rattle.pointers.specs.Rules.{fits_format, layout_valid};
-ghost use Rattle.pointers.specs.Sheets.{marked, sheet_of};
+ghost use Rattle.pointers.specs.Rules.{fits_format};
+ghost use Rattle.pointers.specs.Sheets.{sheet_of};
 
 use crate::layout::{LEAST_TRACKS, Layout, SECTORS_A_TRACK};
 use crate::pointers::Pointers;
-use crate::sheet::is_marked;
 use format::{Sheet, are_whole_tracks};
 use medium::{Fault, Layer, Refusal};
 
@@ -16,13 +14,6 @@ pub fn fits_format(sectors: u32) -> bool
     ensures { result ≡ fits_format sectors }
 {
     are_whole_tracks::<Pointers>(sectors, LEAST_TRACKS)
-}
-
-// Whether the layout that was read keeps the rules, and the bytes around it are as in every sheet.
-fn stands(layout: &Layout, last: u32, sheet: &Sheet) -> bool
-    ensures { result ≡ (layout_valid last layout.now && marked (first_track layout.now) sheet.now) }
-{
-    layout.is_valid(last) && is_marked(sheet, layout.first_track() as u8)
 }
 
 impl Pointers {
@@ -36,7 +27,7 @@ impl Pointers {
         }
         let last = sectors / SECTORS_A_TRACK - 1;
         let layout = Layout::in_sheet(sheet);
-        if !stands(&layout, last, sheet) {
+        if !layout.stands(last, sheet) {
             return Err(Layer::Format.refuses(Refusal::BrokenLayout, 0));
         }
         Ok(Pointers { sectors, layout })

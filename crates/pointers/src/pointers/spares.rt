@@ -5,7 +5,7 @@ ghost use Rattle.pointers.specs.Places.{blocks, data_start, primaries, secondari
 ghost use Rattle.pointers.specs.Ranges.{in_range};
 ghost use Rattle.pointers.specs.Spares.{MayReplace, SparesListed, all_spares, group_spares, is_home, is_secondary, may_replace, serves, spares_of};
 
-use crate::layout::{FIRST_FREE_TRACK, SECTORS_A_TRACK};
+use crate::layout::FIRST_FREE_TRACK;
 use crate::pointers::Pointers;
 use std::ops::Range;
 
@@ -18,6 +18,7 @@ impl Pointers {
     }
 
     // The spare at a place of a group.
+    #[tactic(auto, using(crate::proofs::Geometry::room_of_group))]
     fn primary(&self, group: u32, place: u32) -> u32
         requires { (group < self.now.layout.groups) × (place < self.now.layout.spares) }
         ensures { result ≡ data_start self.now.layout + (group * width self.now.layout + self.now.layout.homes) + place }
@@ -26,6 +27,7 @@ impl Pointers {
     }
 
     // The spare at a place of all groups together.
+    #[tactic(auto, using(crate::proofs::Spared::get_or_group_spares))]
     fn group_spare(&self, index: u32) -> u32
         requires { index < self.now.layout.groups * self.now.layout.spares }
         ensures { result ≡ slice_index (group_spares self.now.layout self.now.layout.groups) index }
@@ -39,10 +41,11 @@ impl Pointers {
         requires { place < self.now.layout.secondary }
         ensures { result ≡ 31 * self.now.layout.start + place }
     {
-        SECTORS_A_TRACK * self.layout.start + place
+        self.secondary_start() + place
     }
 
     // The spares of a group.
+    #[tactic(auto, using(crate::proofs::Geometry::room_of_group))]
     pub(crate) fn primaries(&self, group: u32) -> Range<u32>
         requires { group < self.now.layout.groups }
         ensures { in_range result ≡ primaries self.now.layout group }
@@ -59,7 +62,7 @@ impl Pointers {
         if self.layout.secondary == 0 {
             return 0..0;
         }
-        let start = SECTORS_A_TRACK * self.layout.start;
+        let start = self.secondary_start();
         start..start + self.layout.secondary
     }
 
@@ -106,7 +109,7 @@ impl Pointers {
     }
 
     // The spare that is tried for a block after so many others.
-    #[tactic(auto, using(crate::proofs::Geometry::group_of_block, crate::proofs::Spared::get_or_own, crate::proofs::Spared::get_or_shared,))]
+    #[tactic(auto, using(crate::proofs::Geometry::group_of_block, crate::proofs::Geometry::some_homes, crate::proofs::Spared::get_or_own, crate::proofs::Spared::get_or_shared,))]
     pub fn candidate(&self, block: u32, index: u32) -> u32
         requires { (block < blocks self.now.layout) × (index < self.now.layout.spares + self.now.layout.secondary) }
         ensures { result ≡ slice_index (spares_of self.now.layout block) index }
@@ -122,12 +125,11 @@ impl Pointers {
     fn is_home(&self, sector: u32) -> bool
         ensures { result ≡ is_home self.now.layout sector }
     {
-        let start = self.data_start();
+        let Some(offset) = sector.checked_sub(self.data_start()) else {
+            return false;
+        };
         let width = self.width();
-        let offset = sector.saturating_sub(start);
-        start <= sector
-            && offset / width < u32::from(self.layout.groups)
-            && offset % width < self.layout.homes
+        offset / width < u32::from(self.layout.groups) && offset % width < self.layout.homes
     }
 
     fn is_secondary(&self, sector: u32) -> bool

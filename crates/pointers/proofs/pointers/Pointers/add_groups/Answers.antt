@@ -1,10 +1,7 @@
-use Rattle.std.proofs.Common.{◌≡◌, suc, ◌+◌, ◌++◌, vec_items, sym, ap, ◌∙◌, arith}
+use Rattle.std.proofs.Common.{◌≡◌, suc, ◌+◌, ◌++◌, vec_items, ap, ◌∙◌, arith}
 use Rattle.pointers.specs.Areas.{areas_of_groups, group_areas}
-use Rattle.std.proofs.lemmas.List.{append_assoc, append-nil}
+use Rattle.std.proofs.lemmas.List.{append_assoc}
 use Rattle.pointers.proofs.pointers.Pointers.add_groups.Goals as goal
-
-pub loop-group-init : goal.loop-group-init
-loop-group-init c = sym (append-nil (vec_items c.args.areas.now))
 
 pub loop-group-preserved : goal.loop-group-preserved
 loop-group-preserved c =
@@ -17,11 +14,3 @@ loop-group-preserved c =
     ∙ ap (λ ys. ys ++ more) c.loop-group.invariant
     ∙ append_assoc xs (areas_of_groups l i) more
     ∙ ap (λ k. xs ++ areas_of_groups l k) next
-
-pub returns : goal.returns
-returns c =
-    let l = c.args.self.now.layout in
-    let low = c.loop-group-test.false in
-    let high = c.loop-group.auto.group-end in
-    let all : c.loop-group.group ≡ l.groups = omega arith in
-    c.loop-group.invariant ∙ ap (λ k. vec_items c.args.areas.now ++ areas_of_groups l k) all

@@ -1,0 +1,13 @@
+use Rattle.std.proofs.Common.{arith}
+use Rattle.pointers.proofs.Listing.{start_held}
+use Rattle.pointers.proofs.Ruled.{rules_held}
+use Rattle.pointers.proofs.pointers.Pointers.secondary_start.Goals as goal
+
+pub overflow_mul-result : goal.overflow_mul-result
+overflow_mul-result c = let h = start_held c.args.self.now c.requires in omega arith
+
+pub returns-clause-low : goal.returns-clause-low
+returns-clause-low c =
+    let p = c.args.self.now in
+    let h = start_held p c.requires in
+    omega (arith, (rules_held p).most_spares)
