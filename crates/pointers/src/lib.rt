@@ -10,8 +10,8 @@ pub mod sheet;
 pub mod tracks;
 
 pub use areas::{Area, Purpose};
+pub use format::{BLOCK_BYTES as SHEET_BYTES, Sheet};
 pub use layout::{Layout, MOST_SPARES, SECTORS_A_TRACK};
 pub use pointers::Pointers;
 pub use pointers::lists::{Candidates, Spares};
 pub use pointers::reading::fits_format;
-pub use format::{BLOCK_BYTES as SHEET_BYTES, Sheet};

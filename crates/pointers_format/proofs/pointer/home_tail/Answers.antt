@@ -9,4 +9,3 @@ pointer_to-requires c =
     let f = few_sectors g in
     let e = c.home_of.ensures in
     omega arith
-
