@@ -1,4 +1,4 @@
--- Where the homes and the spares of a layout lie, by sector numbers. A track has 31 sectors.
+-- Where the homes and the spares of a layout lie, by sector numbers. A track has 31 sectors; `range_with_len a k` is k numbers from a on.
 use Rattle.std.specs.Prelude.{◌≡◌, ℕ, ◌+◌, ◌-◌, ◌*◌, ◌/◌, ◌%◌, ◌<◌, ◌≤◌, cond, ◌⊎◌, List, ◌==◌}
 use Rattle.std.specs.List.{range_with_len}
 use mathlib.Core.List.{Memᴰ}
