@@ -3,6 +3,8 @@
 // The most spares that a layout may have, of all its groups and of the secondary area together.
 pub const MOST_SPARES: u32 = 1024;
 
+pub(crate) const MOST_GROUPS: u32 = 65_535;
+
 pub const SECTORS_A_TRACK: u32 = 31;
 
 // A medium of this format has so many tracks at least.
@@ -20,8 +22,7 @@ pub(crate) const COPIES_BEFORE_LAST: u32 = 2;
 // How the sectors of a medium are divided; whether it keeps the rules is another matter.
 #[derive(Clone, Copy, PartialEq, Eq, Debug)]
 pub struct Layout {
-    // two bytes of the sheet, and so never more than the rules allow
-    pub groups: u16,
+    pub groups: u32,
     // of each group
     pub homes: u32,
     pub spares: u32,

@@ -4,14 +4,15 @@ ghost use Rattle.pointers.specs.Places.{data_start, first_track, groups_end};
 ghost use Rattle.pointers.specs.Rules.{counts_valid, groups_valid, layout_valid, secondary_valid};
 
 use crate::layout::{
-    COPIES_BEFORE_LAST, FIRST_FREE_TRACK, Layout, MOST_SPARES, NO_TRACK, SECTORS_A_TRACK,
+    COPIES_BEFORE_LAST, FIRST_FREE_TRACK, Layout, MOST_GROUPS, MOST_SPARES, NO_TRACK,
+    SECTORS_A_TRACK,
 };
 
 // The first sector of a track, on however large a medium.
-fn start_of(track: u32) -> u64
+fn start_of(track: u32) -> u128
     ensures { result ≡ 31 * track }
 {
-    u64::from(SECTORS_A_TRACK) * u64::from(track)
+    u128::from(SECTORS_A_TRACK) * u128::from(track)
 }
 
 impl Layout {
@@ -30,7 +31,9 @@ impl Layout {
         ensures { result ≡ counts_valid self.now }
     {
         let spares = u64::from(self.groups) * u64::from(self.spares) + u64::from(self.secondary);
-        1 <= self.groups && 1 <= self.homes && spares <= u64::from(MOST_SPARES)
+        (1..=MOST_GROUPS).contains(&self.groups)
+            && 1 <= self.homes
+            && spares <= u64::from(MOST_SPARES)
     }
 
     // Whether the secondary area is whole tracks, right behind the first copies of the layout or right before the last ones.
@@ -49,7 +52,7 @@ impl Layout {
 
     // The first sector of the data zone.
     #[tactic(auto, unfolding(crate::specs::Places::data_start))]
-    pub(crate) fn data_start(&self) -> u64
+    pub(crate) fn data_start(&self) -> u128
         ensures value { result ≡ data_start self.now }
         ensures low { result < 2 ^ 37 }
     {
@@ -57,11 +60,11 @@ impl Layout {
     }
 
     // The first sector behind the groups.
-    pub(crate) fn groups_end(&self) -> u64
+    pub(crate) fn groups_end(&self) -> u128
         ensures { result ≡ groups_end self.now }
     {
-        let width = u64::from(self.homes) + u64::from(self.spares);
-        self.data_start() + u64::from(self.groups) * width
+        let width = u128::from(self.homes) + u128::from(self.spares);
+        self.data_start() + u128::from(self.groups) * width
     }
 
     // Whether the groups end before the last copies of the layout, and before a secondary area behind them.

@@ -54,7 +54,7 @@ impl Layout {
         ensures { result ≡ layout_in sheet.now }
     {
         Layout {
-            groups: two_at(sheet, GROUPS),
+            groups: u32::from(two_at(sheet, GROUPS)),
             homes: four_at(sheet, HOMES),
             spares: four_at(sheet, SPARES),
             start: four_at(sheet, START),
@@ -71,12 +71,12 @@ impl Layout {
 
     // The sheet that gives the layout.
     pub(crate) fn to_sheet(&self) -> Sheet
-        requires { first_track self.now ≤ 255 }
+        requires { (self.now.groups ≤ 65535) × (first_track self.now ≤ 255) }
         ensures { result ≡ sheet_of self.now }
     {
         let mut sheet = [FILLER; BLOCK_BYTES];
         put(&mut sheet, 0, &head(self.first_track() as u8));
-        put(&mut sheet, GROUPS, &self.groups.to_be_bytes());
+        put(&mut sheet, GROUPS, &(self.groups as u16).to_be_bytes());
         put(&mut sheet, HOMES, &self.homes.to_be_bytes());
         put(&mut sheet, SPARES, &self.spares.to_be_bytes());
         put(&mut sheet, START, &self.start.to_be_bytes());

@@ -60,7 +60,7 @@ impl Pointers {
     fn add_groups(&self, areas: &mut Vec<Area>) -> Result<(), AllocError>
         ensures { OnOk result (areas.new.items ≡ areas.old.items ++ areas_of_groups self.now.layout self.now.layout.groups) }
     {
-        for group in 0..u32::from(self.layout.groups) {
+        for group in 0..self.layout.groups {
             self.add_group(areas, group)?;
         }
         Ok(())

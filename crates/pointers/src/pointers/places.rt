@@ -12,7 +12,7 @@ impl Pointers {
         ensures count { result ≡ blocks self.now.layout }
         ensures places { PlacesSound (last_track self.now.sectors) self.now.layout }
     {
-        u32::from(self.layout.groups) * self.layout.homes
+        self.layout.groups * self.layout.homes
     }
 
     pub(crate) fn last_track(&self) -> u32

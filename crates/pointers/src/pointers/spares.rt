@@ -70,11 +70,11 @@ impl Pointers {
     fn primary_count(&self) -> u32
         ensures { result ≡ self.now.layout.groups * self.now.layout.spares }
     {
-        u32::from(self.layout.groups) * self.layout.spares
+        self.layout.groups * self.layout.spares
     }
 
     #[tactic(auto, using(crate::proofs::Spared::length_all_spares))]
-    pub fn spare_count(&self) -> u32
+    pub(crate) fn spare_count(&self) -> u32
         ensures count { result ≡ length (all_spares self.now.layout) }
         ensures listed { SparesListed self.now.layout }
     {
@@ -83,7 +83,7 @@ impl Pointers {
 
     // A spare by its place among all of them.
     #[tactic(auto, using(crate::proofs::Spared::length_all_spares, crate::proofs::Spared::get_or_front_secondary, crate::proofs::Spared::get_or_front_group, crate::proofs::Spared::get_or_behind_group, crate::proofs::Spared::get_or_behind_secondary,))]
-    pub fn spare(&self, index: u32) -> u32
+    pub(crate) fn spare(&self, index: u32) -> u32
         requires { index < length (all_spares self.now.layout) }
         ensures { result ≡ slice_index (all_spares self.now.layout) index }
     {
@@ -101,26 +101,6 @@ impl Pointers {
         self.secondary(index - primary)
     }
 
-    // How many spares come into question for a block.
-    pub fn candidate_count(&self) -> u32
-        ensures { result ≡ self.now.layout.spares + self.now.layout.secondary }
-    {
-        self.layout.spares + self.layout.secondary
-    }
-
-    // The spare that is tried for a block after so many others.
-    #[tactic(auto, using(crate::proofs::Geometry::group_of_block, crate::proofs::Geometry::some_homes, crate::proofs::Spared::get_or_own, crate::proofs::Spared::get_or_shared,))]
-    pub fn candidate(&self, block: u32, index: u32) -> u32
-        requires { (block < blocks self.now.layout) × (index < self.now.layout.spares + self.now.layout.secondary) }
-        ensures { result ≡ slice_index (spares_of self.now.layout block) index }
-    {
-        let spares = self.layout.spares;
-        if index < spares {
-            return self.primary(block / self.layout.homes, index);
-        }
-        self.secondary(index - spares)
-    }
-
     #[tactic(auto, unfolding(crate::specs::Spares::is_home))]
     fn is_home(&self, sector: u32) -> bool
         ensures { result ≡ is_home self.now.layout sector }
@@ -129,7 +109,7 @@ impl Pointers {
             return false;
         };
         let width = self.width();
-        offset / width < u32::from(self.layout.groups) && offset % width < self.layout.homes
+        offset / width < self.layout.groups && offset % width < self.layout.homes
     }
 
     fn is_secondary(&self, sector: u32) -> bool

@@ -1,5 +1,5 @@
 use Rattle.std.proofs.Common.{ap, ◌∙◌, arith}
-use Rattle.pointers.proofs.Ruled.{first_track_small}
+use Rattle.pointers.proofs.Ruled.{first_track_small, rules_held}
 use Rattle.pointers.proofs.Written.{read_back}
 use Rattle.pointers.specs.Reading.{sheet_read}
 use Rattle.pointers.specs.Rules.{last_track}
@@ -9,7 +9,8 @@ pub to_sheet-requires : goal.to_sheet-requires
 to_sheet-requires c =
     let p = c.args.self.now in
     let h = first_track_small (last_track p.sectors) p.layout p.valid in
-    omega arith
+    let r = rules_held p in
+    (omega arith, omega arith)
 
 pub returns : goal.returns
 returns c =
