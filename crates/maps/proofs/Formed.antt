@@ -94,12 +94,12 @@ formed_bands n d k =
     (cases_lt k 8)
 
 -- what is known of a layout that a fitting number of sectors and a sheet gave
-pub read_laid : (p : ℕ) (d : List ℕ) (l : Layout) → true ≡ fits_format p → l ≡ layout_in (last_track p) d → (8 ≤ l.last) × ((l.last ≤ 19999) × (length l.bands ≡ 8))
+pub read_tracks : (p : ℕ) (d : List ℕ) (l : Layout) → true ≡ fits_format p → l ≡ layout_in (last_track p) d → (8 ≤ l.last) × (l.last ≤ 19999)
 unfolding layout_in
-read_laid p d l t e =
+read_tracks p d l t e =
     let h = fitting_tracks p (sym t) in
-    let P : Layout → Type 0 = λ k. (8 ≤ k.last) × ((k.last ≤ 19999) × (length k.bands ≡ 8)) in
-    subst P (sym e) (h.0, (h.1, eight_bands (last_track p) d))
+    let P : Layout → Type 0 = λ k. (8 ≤ k.last) × (k.last ≤ 19999) in
+    subst P (sym e) (h.0, h.1)
 
 pub read_formed : (n : ℕ) (d : List ℕ) (l : Layout) → l ≡ layout_in n d → (k : ℕ) → band_formed l.count k (get_or l.bands k no_band) ≡ true
 read_formed n d l e k =

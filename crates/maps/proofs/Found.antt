@@ -2,7 +2,7 @@
 use Rattle.std.proofs.Common.{◌≡◌, ℕ, zero, suc, ◌+◌, ◌-◌, ◌*◌, ◌<◌, ◌≤◌, true, false, ◌&&◌, ltb, leb, List, [], ◌∷◌, length, get_or, drop, sym, refl, ap, ◌∙◌, subst, ⊎_elim, arith}
 use Rattle.maps.proofs.Standing.{each_stands, one_area, pair_by, pair_rises, pair_separate, primes_inside, stands, two_apart}
 use Rattle.maps.specs.Homes.{HomesPlaced}
-use Rattle.maps.specs.Places.{InArea, band_of, band_stands, bands_apart, bands_of, bands_stand, block_count, blocks, home, home_in, no_band, overflow, sectors_for, valid}
+use Rattle.maps.specs.Places.{InArea, band_of, bands_apart, bands_of, bands_stand, block_count, blocks, home, home_in, no_band, overflow, sectors_for, valid}
 use Rattle.maps.specs.declared.bands.Band.{Band}
 use Rattle.maps.specs.declared.bands.Layout.{Layout}
 use Rattle.maps.specs.declared.bands.Purpose.{Purpose}
@@ -121,6 +121,29 @@ pub finding_first : (l : Layout) (b : ℕ) → b < blocks l → Finding l b 0 b
 unfolding blocks
 finding_first l b h = record { same = refl; less = h }
 
+module _ (l : Layout) (b i rest : ℕ) (g : Finding l b i rest) where
+  pub finding_last : length (bands_of l) ≤ i → ⊥
+  finding_last d =
+      let none : block_count (drop i (bands_of l)) ≡ 0 = at_drop_all block_count (bands_of l) i d in
+      let k = g.less in
+      omega arith
+
+  module _ (more : i < length (bands_of l)) where
+    abbrev here : Band
+    here = get_or (bands_of l) i no_band
+
+    split : drop i (bands_of l) ≡ here ∷ drop (i + 1) (bands_of l)
+    split = drop_more (bands_of l) i no_band more
+
+    pub finding_here : rest < here.homes → here.first + rest ≡ home l b
+    unfolding home
+    finding_here h = sym (home_here here (drop (i + 1) (bands_of l)) rest h) ∙ sym (ap (λ k. home_in k rest) split) ∙ g.same
+
+    pub finding_next : here.homes ≤ rest → Finding l b (i + 1) (rest - here.homes)
+    finding_next h =
+        let all : rest < here.homes + block_count (drop (i + 1) (bands_of l)) = subst (λ k. rest < block_count k) split g.less in
+        record { same = sym (home_later here (drop (i + 1) (bands_of l)) rest h) ∙ sym (ap (λ k. home_in k rest) split) ∙ g.same; less = omega arith }
+
 pub last_low : (l : Layout) → valid l ≡ true → 8 ≤ l.last
 unfolding valid
 last_low l kept = leb-true _ _ (and_parts (leb 8 l.last) (leb l.last 19999) (and_parts (leb 8 l.last && leb l.last 19999) _ kept).0).0
@@ -188,32 +211,9 @@ module _ (l : Layout) (kept : valid l ≡ true) (eight : length l.bands ≡ 8) w
         every_prime = λ k i h p. let g = laid.long in onto (bands_of l) k i (omega arith) (subst (λ x. InArea x Prime i) (sym (used k h)) p);
       }
 
-  module _ (b i rest : ℕ) (g : Finding l b i rest) where
-    pub finding_last : l.count ≤ i → ⊥
-    finding_last d =
-        let c = laid.long in
-        let none : block_count (drop i (bands_of l)) ≡ 0 = at_drop_all block_count (bands_of l) i (omega arith) in
-        let k = g.less in
-        omega arith
-
-    module _ (more : i < l.count) where
-      split : drop i (bands_of l) ≡ band_of l i ∷ drop (i + 1) (bands_of l)
-      split = let c = laid.long in drop_more (bands_of l) i no_band (omega arith) ∙ ap (λ k. k ∷ drop (i + 1) (bands_of l)) (used i more)
-
-      pub finding_fits : rest < (band_of l i).homes → (band_of l i).first + rest < 640064
-      finding_fits h =
-          let s = laid.small in
-          let c = laid.long in
-          let t = ap (band_stands (sectors_for l.last)) (sym (used i more)) ∙ each_stands (sectors_for l.last) (bands_of l) laid.stand i (omega arith) in
-          let q = primes_inside (sectors_for l.last) (band_of l i) (stands (sectors_for l.last) (band_of l i) t) (omega arith) in
-          let high = q.1 in
-          omega arith
-
-      pub finding_here : rest < (band_of l i).homes → (band_of l i).first + rest ≡ home l b
-      unfolding home
-      finding_here h = sym (home_here (band_of l i) (drop (i + 1) (bands_of l)) rest h) ∙ sym (ap (λ k. home_in k rest) split) ∙ g.same
-
-      pub finding_next : (band_of l i).homes ≤ rest → Finding l b (i + 1) (rest - (band_of l i).homes)
-      finding_next h =
-          let all : rest < (band_of l i).homes + block_count (drop (i + 1) (bands_of l)) = subst (λ k. rest < block_count k) split g.less in
-          record { same = sym (home_later (band_of l i) (drop (i + 1) (bands_of l)) rest h) ∙ sym (ap (λ k. home_in k rest) split) ∙ g.same; less = omega arith }
+  pub finding_fits : (i rest : ℕ) → i < length (bands_of l) → rest < (get_or (bands_of l) i no_band).homes → (get_or (bands_of l) i no_band).first + rest < 640064
+  finding_fits i rest more h =
+      let small = laid.small in
+      let s = stands (sectors_for l.last) (get_or (bands_of l) i no_band) (each_stands (sectors_for l.last) (bands_of l) laid.stand i more) in
+      let high = (primes_inside (sectors_for l.last) (get_or (bands_of l) i no_band) s (omega arith)).1 in
+      omega arith

@@ -3,9 +3,9 @@ use Rattle.std.proofs.Common.{◌≡◌, ℕ, zero, suc, ◌+◌, ◌-◌, ◌*�
 use mathlib.Core.List.Memᴰ
 use mathlib.Core.List.{Memᴰ}
 use Rattle.maps.proofs.Found.{laid, one_place}
-use Rattle.maps.proofs.Listed.{begun_alternative, begun_map, begun_none, begun_prime}
+use Rattle.maps.proofs.Listed.{areas_before, as_list, before_listed, begun_alternative, begun_map, begun_none, begun_prime}
 use Rattle.maps.proofs.Standing.{Stands, each_stands, primes_inside, stands}
-use Rattle.maps.specs.Areas.{AreaTold, AreasListed, all_areas, area_from, areas_before, as_list, begun, begun_in, or_else}
+use Rattle.maps.specs.Areas.{AreaTold, AreasListed, all_areas, area_from, begun, begun_in, or_else}
 use Rattle.maps.specs.Places.{InArea, band_formed, band_of, bands_of, first_of, no_band, overflow, sectors_for, size_of, unused, valid, whole_tracks}
 use Rattle.maps.specs.declared.areas.Area.{Area}
 use Rattle.maps.specs.declared.bands.Band.{Band}
@@ -245,4 +245,4 @@ module _ (l : Layout) (kept : valid l ≡ true) (eight : length l.bands ≡ 8) (
   pub areas_listed : (rs : List Area) → rs ≡ all_areas l → AreasListed l rs
   unfolding all_areas
   areas_listed rs e =
-      subst (AreasListed l) (sym e) (record { each = each_told (l.last + 1); every = every_listed; rising = (rise (l.last + 1)).0 })
+      subst (AreasListed l) (before_listed l (l.last + 1) ∙ sym e) (record { each = each_told (l.last + 1); every = every_listed; rising = (rise (l.last + 1)).0 })

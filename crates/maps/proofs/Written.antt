@@ -5,36 +5,23 @@ use Rattle.maps.proofs.Found.{laid, last_low}
 use Rattle.maps.proofs.Standing.{Stands, each_stands, primes_inside, stands}
 use Rattle.maps.specs.Places.{band_formed, band_of, band_stands, bands_of, no_band, overflow, sectors_for, unused, valid, whole_tracks}
 use Rattle.maps.specs.Reading.{last_track, reading_layout}
-use Rattle.maps.specs.Sheets.{Writable, band_at, band_count, band_or_none, entry_byte, entry_number, first_sector, first_track, identified, layout_in, overflow_entry, prime_tracks, sheet_byte, sheet_of, track_of, two_at}
+use Rattle.maps.specs.Sheets.{Writable, band_at, band_count, band_or_none, entry_byte, entry_numbers, first_sector, first_track, identified, layout_in, overflow_entry, prime_tracks, sheet_byte, sheet_of, track_of, two_at}
 use Rattle.maps.specs.declared.bands.Band.{Band}
 use Rattle.maps.specs.declared.bands.Layout.{Layout}
 use Rattle.maps.specs.declared.bands.Purpose.TheVariants.{Map, Alternative, Prime}
-use Rattle.std.proofs.lemmas.List.FromFn.{fill_by_all, get_or-map-range_with_len, length-map-range_with_len}
+use Rattle.std.proofs.lemmas.List.FromFn.{get_or-map-range_with_len, length-map-range_with_len}
 use Rattle.std.proofs.lemmas.List.{ext_get_or, get_or-take}
 use Rattle.std.specs.List.{range_with_len}
 use Rattle.std.proofs.lemmas.Bool.{and_from, and_parts, both_ways, cases_Bool, cases_lt, cond-false, cond-true, eq-eqb, eqb-false, eqb-true, le-leb, le-ltb, lt-ltb, ne_eqb, or_cases}
 
--- the numbers of an entry, by the place and the band
-pub number_maps : (x : Band) (i : ℕ) → i ≡ 0 → entry_number x i ≡ track_of x.maps
-unfolding entry_number
-number_maps x i e = cond-true (eqb i 0) _ _ (eq-eqb _ _ e)
+-- the numbers of an entry in place of a prime area, and those of one
+pub numbers_none : (x : Band) → overflow x ≡ true → (get_or (entry_numbers x) 2 0 ≡ 65535) × (get_or (entry_numbers x) 3 0 ≡ 65535)
+unfolding entry_numbers
+numbers_none x o = (cond-true (overflow x) _ _ o, cond-true (overflow x) _ _ o)
 
-pub number_spares : (x : Band) (i : ℕ) → i ≡ 1 → entry_number x i ≡ track_of x.spares
-unfolding entry_number
-number_spares x i e = cond-false (eqb i 0) _ _ (ne_eqb _ _ (λ z. omega arith)) ∙ cond-true (eqb i 1) _ _ (eq-eqb _ _ e)
-
-prime_number : (x : Band) (i : ℕ) → 2 ≤ i → entry_number x i ≡ cond (overflow x) 65535 (cond (eqb i 2) (track_of x.first) (x.homes / 32))
-unfolding entry_number
-prime_number x i h = cond-false (eqb i 0) _ _ (ne_eqb _ _ (λ z. omega arith)) ∙ cond-false (eqb i 1) _ _ (ne_eqb _ _ (λ z. omega arith))
-
-pub number_none : (x : Band) (i : ℕ) → 2 ≤ i → overflow x ≡ true → entry_number x i ≡ 65535
-number_none x i h o = prime_number x i h ∙ cond-true (overflow x) _ _ o
-
-pub number_first : (x : Band) (i : ℕ) → i ≡ 2 → overflow x ≡ false → entry_number x i ≡ track_of x.first
-number_first x i h o = prime_number x i (omega arith) ∙ cond-false (overflow x) _ _ o ∙ cond-true (eqb i 2) _ _ (eq-eqb _ _ h)
-
-pub number_tracks : (x : Band) (i : ℕ) → 3 ≤ i → overflow x ≡ false → entry_number x i ≡ x.homes / 32
-number_tracks x i h o = prime_number x i (omega arith) ∙ cond-false (overflow x) _ _ o ∙ cond-false (eqb i 2) _ _ (ne_eqb _ _ (λ z. omega arith))
+pub numbers_some : (x : Band) → overflow x ≡ false → (get_or (entry_numbers x) 2 0 ≡ track_of x.first) × (get_or (entry_numbers x) 3 0 ≡ x.homes / 32)
+unfolding entry_numbers
+numbers_some x o = (cond-false (overflow x) _ _ o, cond-false (overflow x) _ _ o)
 
 -- the bytes of a sheet, by their place
 pub byte_identifier : (l : Layout) (i : ℕ) → i < 2 → sheet_byte l i ≡ 0
@@ -85,19 +72,19 @@ module _ (l : Layout) (kept : valid l ≡ true) (eight : length l.bands ≡ 8) w
       }
 
 -- a number's two bytes, and the number again
-half_high : (x : Band) (i : ℕ) → entry_byte x (2 * i) ≡ entry_number x i / 256
+half_high : (x : Band) (i : ℕ) → entry_byte x (2 * i) ≡ get_or (entry_numbers x) i 0 / 256
 unfolding entry_byte
 half_high x i =
     let even : 2 * i % 2 ≡ 0 = omega arith in
     let half : 2 * i / 2 ≡ i = omega arith in
-    cond-true (eqb (2 * i % 2) 0) _ _ (eq-eqb _ _ even) ∙ ap (λ n. entry_number x n / 256) half
+    cond-true (eqb (2 * i % 2) 0) _ _ (eq-eqb _ _ even) ∙ ap (λ n. get_or (entry_numbers x) n 0 / 256) half
 
-half_low : (x : Band) (i : ℕ) → entry_byte x (2 * i + 1) ≡ entry_number x i % 256
+half_low : (x : Band) (i : ℕ) → entry_byte x (2 * i + 1) ≡ get_or (entry_numbers x) i 0 % 256
 unfolding entry_byte
 half_low x i =
     let odd : (2 * i + 1) % 2 ≡ 0 → ⊥ = λ e. omega arith in
     let half : (2 * i + 1) / 2 ≡ i = omega arith in
-    cond-false (eqb ((2 * i + 1) % 2) 0) _ _ (ne_eqb _ _ odd) ∙ ap (λ n. entry_number x n % 256) half
+    cond-false (eqb ((2 * i + 1) % 2) 0) _ _ (ne_eqb _ _ odd) ∙ ap (λ n. get_or (entry_numbers x) n 0 % 256) half
 
 -- the first sector of a track, and the sector again
 first_back : (s : ℕ) → 64 ≤ s → s < 640064 → s % 32 ≡ 0 → first_sector (track_of s) ≡ s
@@ -126,16 +113,16 @@ module _ (l : Layout) (kept : valid l ≡ true) (eight : length l.bands ≡ 8) (
       ∙ ap (λ n. entry_byte (band_of l n) ((8 * k + 3 + j - 3) % 8)) q
       ∙ ap (entry_byte (band_of l k)) r
 
-  number_back : (k i p : ℕ) → k < l.count → i < 4 → p ≡ 8 * k + 3 + 2 * i → two_at d p ≡ entry_number (band_of l k) i
+  number_back : (k i p : ℕ) → k < l.count → i < 4 → p ≡ 8 * k + 3 + 2 * i → two_at d p ≡ get_or (entry_numbers (band_of l k)) i 0
   number_back k i p h m e =
       let x = band_of l k in
-      let hi : get_or d p 0 ≡ entry_number x i / 256 = ap (λ n. get_or d n 0) e ∙ byte_at k (2 * i) h (omega arith) ∙ half_high x i in
+      let hi : get_or d p 0 ≡ get_or (entry_numbers x) i 0 / 256 = ap (λ n. get_or d n 0) e ∙ byte_at k (2 * i) h (omega arith) ∙ half_high x i in
       let f : p + 1 ≡ 8 * k + 3 + (2 * i + 1) = omega arith in
-      let lo : get_or d (p + 1) 0 ≡ entry_number x i % 256 = ap (λ n. get_or d n 0) f ∙ byte_at k (2 * i + 1) h (omega arith) ∙ half_low x i in
+      let lo : get_or d (p + 1) 0 ≡ get_or (entry_numbers x) i 0 % 256 = ap (λ n. get_or d n 0) f ∙ byte_at k (2 * i + 1) h (omega arith) ∙ half_low x i in
       omega arith
 
-  tracks_back : (k : ℕ) → k < l.count → (first_track d k Map ≡ entry_number (band_of l k) 0) × (first_track d k Alternative ≡ entry_number (band_of l k) 1) × (first_track d k Prime ≡ entry_number (band_of l k) 2) × (prime_tracks d k ≡ entry_number (band_of l k) 3)
-  unfolding first_track prime_tracks
+  tracks_back : (k : ℕ) → k < l.count → (first_track d k Map ≡ track_of (band_of l k).maps) × (first_track d k Alternative ≡ track_of (band_of l k).spares) × (first_track d k Prime ≡ get_or (entry_numbers (band_of l k)) 2 0) × (prime_tracks d k ≡ get_or (entry_numbers (band_of l k)) 3 0)
+  unfolding first_track prime_tracks entry_numbers
   tracks_back k h =
       (number_back k 0 (8 * k + 3) h (omega arith) (omega arith), number_back k 1 (8 * k + 5) h (omega arith) (omega arith), number_back k 2 (8 * k + 7) h (omega arith) (omega arith), number_back k 3 (8 * k + 9) h (omega arith) (omega arith))
 
@@ -152,10 +139,10 @@ module _ (l : Layout) (kept : valid l ≡ true) (eight : length l.bands ≡ 8) (
         (eqb-true _ _ a.0, eqb-true _ _ a.1, eqb-true _ _ b.0, eqb-true _ _ b.1)
 
     maps_back : first_sector (first_track d k Map) ≡ x.maps
-    maps_back = let w = writable l kept eight k h in ap first_sector ((tracks_back k h).0 ∙ number_maps x 0 refl) ∙ first_back x.maps w.map_low w.map_high whole.0
+    maps_back = let w = writable l kept eight k h in ap first_sector (tracks_back k h).0 ∙ first_back x.maps w.map_low w.map_high whole.0
 
     spares_back : first_sector (first_track d k Alternative) ≡ x.spares
-    spares_back = let w = writable l kept eight k h in ap first_sector ((tracks_back k h).1 ∙ number_spares x 1 refl) ∙ first_back x.spares w.spares_low w.spares_high whole.1
+    spares_back = let w = writable l kept eight k h in ap first_sector (tracks_back k h).1 ∙ first_back x.spares w.spares_low w.spares_high whole.1
 
     same_band : (m s f n : ℕ) → m ≡ x.maps → s ≡ x.spares → f ≡ x.first → n ≡ x.homes → ◌≡◌ {A = Band} (record { maps = m; spares = s; first = f; homes = n }) x
     same_band m s f n a b e g = same_parts m s f n x.maps x.spares x.first x.homes a b e g
@@ -164,7 +151,7 @@ module _ (l : Layout) (kept : valid l ≡ true) (eight : length l.bands ≡ 8) (
     unfolding band_at overflow_entry
     band_none o =
         let t = tracks_back k h in
-        let over : overflow_entry d k ≡ true = and_from _ _ (eq-eqb _ _ (t.2 ∙ number_none x 2 (omega arith) o)) (eq-eqb _ _ (t.3 ∙ number_none x 3 (omega arith) o)) in
+        let over : overflow_entry d k ≡ true = and_from _ _ (eq-eqb _ _ (t.2 ∙ (numbers_none x o).0)) (eq-eqb _ _ (t.3 ∙ (numbers_none x o).1)) in
         let no_homes : x.homes ≡ 0 = eqb-true _ _ o in
         let no_first : x.first ≡ 0 = eqb-true _ _ (sym (cond-true (overflow x) _ _ o) ∙ (standing l kept eight k h).primes) in
         same_band _ _ _ _ maps_back spares_back (cond-true (overflow_entry d k) _ _ over ∙ sym no_first) (cond-true (overflow_entry d k) _ _ over ∙ sym no_homes)
@@ -177,8 +164,8 @@ module _ (l : Layout) (kept : valid l ≡ true) (eight : length l.bands ≡ 8) (
         let some : 1 ≤ x.homes = let ne = eqb-false x.homes 0 o in ⊎_elim (λ (p : 0 < x.homes). p) (λ (z : x.homes ≤ 0). absurd (ne (omega arith))) (cases_lt 0 x.homes) in
         let low = w.prime_low some in
         let high = w.prime_high some in
-        let first = t.2 ∙ number_first x 2 refl o in
-        let tracks = t.3 ∙ number_tracks x 3 (omega arith) o in
+        let first = t.2 ∙ (numbers_some x o).0 in
+        let tracks = t.3 ∙ (numbers_some x o).1 in
         let far : first_track d k Prime ≡ 65535 → ⊥ = λ e. omega arith in
         let over : overflow_entry d k ≡ false = ap (λ b. b && eqb (prime_tracks d k) 65535) (ne_eqb (first_track d k Prime) 65535 far) in
         let whole_homes = whole.3 in
@@ -224,14 +211,12 @@ module _ (l : Layout) (kept : valid l ≡ true) (eight : length l.bands ≡ 8) (
   identified_back = and_from _ _ (eq-eqb _ _ (bytes 0 (omega arith) ∙ byte_identifier l 0 (omega arith))) (eq-eqb _ _ (bytes 1 (omega arith) ∙ byte_identifier l 1 (omega arith)))
 
 -- reading the bytes of a layout, for as many sectors, gives that layout
-pub read_back : (l : Layout) → valid l ≡ true → length l.bands ≡ 8 → ((k : ℕ) → band_formed l.count k (band_of l k) ≡ true) → (d : List ℕ) → ((i : ℕ) → i < 512 → get_or d i 0 ≡ sheet_byte l i) → reading_layout (sectors_for l.last) d ≡ Ok l
-read_back l v eight formed d bytes =
+pub read_back : (l : Layout) → valid l ≡ true → length l.bands ≡ 8 → ((k : ℕ) → band_formed l.count k (band_of l k) ≡ true) → (d : List ℕ) → d ≡ sheet_of l → reading_layout (sectors_for l.last) d ≡ Ok l
+unfolding sheet_of
+read_back l v eight formed d e =
+    let bytes : (i : ℕ) → i < 512 → get_or d i 0 ≡ sheet_byte l i = λ i h. ap (λ xs. get_or xs i 0) e ∙ get_or-map-range_with_len (sheet_byte l) 0 512 i i 0 h (omega arith) in
     let low = last_low l v in
     let high = (laid l v eight).small in
     let fit = tracks_fitting l.last low high in
     let same : l ≡ layout_in (last_track (sectors_for l.last)) d = sym (ap (λ n. layout_in n d) fit.1 ∙ layout_back l v eight formed d bytes) in
     sym (kept (sectors_for l.last) d l (sym fit.0) same (and_from _ _ (identified_back l v eight formed d bytes) v))
-
-pub written_so : (l : Layout) (d : List ℕ) → length d ≡ 512 → ((i : ℕ) → i < 512 → get_or d i 0 ≡ sheet_byte l i) → d ≡ sheet_of l
-unfolding sheet_of
-written_so l d long bytes = fill_by_all (sheet_byte l) d 512 0 long bytes

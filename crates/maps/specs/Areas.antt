@@ -1,7 +1,8 @@
 -- The areas of a layout, in rising order of tracks.
-use Rattle.std.specs.Prelude.{◌≡◌, ℕ, zero, suc, ◌+◌, ◌-◌, ◌*◌, ◌/◌, ◌<◌, ◌≤◌, cond, not, ◌&&◌, List, [], ◌∷◌, ◌++◌, map, Some, None, Option, ◌==◌, slice_index_or}
+use Rattle.std.specs.Prelude.{◌≡◌, ℕ, ◌+◌, ◌-◌, ◌*◌, ◌/◌, ◌<◌, ◌≤◌, cond, not, ◌&&◌, List, [], ◌∷◌, map, Some, None, Option, ◌==◌}
+use Rattle.std.specs.List.{filter_map, range_with_len}
 use mathlib.Core.List.{Memᴰ}
-use Rattle.maps.specs.Places.{band_of, bands_of, first_of, no_band, overflow, size_of}
+use Rattle.maps.specs.Places.{band_of, bands_of, first_of, overflow, size_of}
 use Rattle.maps.specs.declared.areas.Area.{Area}
 use Rattle.maps.specs.declared.bands.Band.{Band}
 use Rattle.maps.specs.declared.bands.Layout.{Layout}
@@ -12,10 +13,6 @@ use Rattle.medium.specs.Order.{Rising}
 -- the area of n sectors that begins on track t
 abbrev pub area_of : ℕ → Purpose → ℕ → ℕ → Area
 area_of k a t n = record { first = t; last = t + (n - 1) / 32; band = k; purpose = a }
-
--- no band has more homes than a medium has sectors
-abbrev pub HomesFew : List Band → Type 0
-HomesFew bs = (k : ℕ) → (slice_index_or bs k no_band).homes ≤ 640064
 
 -- the area of band number k that begins on track t
 abbrev pub area_from : ℕ → Band → Purpose → ℕ → Area
@@ -36,18 +33,9 @@ abbrev pub begun : ℕ → List Band → ℕ → Option Area
 begun k [] t = None
 begun k (x ∷ xs) t = or_else (begun_in k x t) (begun (k + 1) xs t)
 
-abbrev pub as_list : Option Area → List Area
-as_list (Some a) = a ∷ []
-as_list None = []
-
--- the areas that begin before track t, track by track
-abbrev pub areas_before : Layout → ℕ → List Area
-areas_before l zero = []
-areas_before l (suc t) = areas_before l t ++ as_list (begun 1 (bands_of l) t)
-
--- all areas of a layout
+-- all areas of a layout, track by track
 unfoldable pub all_areas : Layout → List Area
-all_areas l = areas_before l (l.last + 1)
+all_areas l = filter_map (begun 1 (bands_of l)) (range_with_len 0 (l.last + 1))
 
 -- an area of the layout, told by its band, its use, and its first and last track
 pub record AreaTold (l : Layout) (r : Area) : Type 0 where

@@ -1,5 +1,6 @@
 -- Where the homes, the alternatives and the maps of a layout lie.
 use Rattle.std.specs.Prelude.{ℕ, ◌+◌, ◌-◌, ◌*◌, ◌%◌, ◌<◌, ◌≤◌, Bool, true, cond, ◌&&◌, ◌||◌, List, [], ◌∷◌, take, ◌==◌, nat_le, nat_lt, slice_index_or}
+use Rattle.std.specs.List.{list_all}
 use Rattle.maps.specs.declared.bands.Band.{Band}
 use Rattle.maps.specs.declared.bands.Layout.{Layout}
 use Rattle.maps.specs.declared.bands.Purpose.{Purpose}
@@ -84,8 +85,7 @@ bands_apart x y =
     && (area_apart x.maps 128 y && (area_apart x.spares 128 y && area_apart x.first x.homes y))
 
 abbrev pub apart_from_all : Band → List Band → Bool
-apart_from_all x [] = true
-apart_from_all x (y ∷ ys) = bands_apart x y && apart_from_all x ys
+apart_from_all x ys = list_all (bands_apart x) ys
 
 -- every band stands, and is apart from those behind it
 abbrev pub bands_stand : ℕ → List Band → Bool

@@ -1,5 +1,5 @@
 -- The bytes of a layout sheet: the layout that they give, and those that a layout is written in.
-use Rattle.std.specs.Prelude.{ℕ, ◌+◌, ◌-◌, ◌*◌, ◌/◌, ◌%◌, ◌<◌, ◌≤◌, Bool, cond, ◌&&◌, List, map, ◌==◌, nat_le, nat_lt, slice_index}
+use Rattle.std.specs.Prelude.{ℕ, ◌+◌, ◌-◌, ◌*◌, ◌/◌, ◌%◌, ◌<◌, ◌≤◌, Bool, cond, ◌&&◌, List, [], ◌∷◌, map, ◌==◌, nat_le, nat_lt, slice_index}
 use Rattle.maps.specs.Places.{band_of, no_band, overflow}
 use Rattle.maps.specs.declared.bands.Band.{Band}
 use Rattle.maps.specs.declared.bands.Layout.{Layout}
@@ -63,16 +63,17 @@ abbrev pub track_of : ℕ → ℕ
 track_of s = s / 32 - 2
 
 -- the four numbers of a band's entry
-unfoldable pub entry_number : Band → ℕ → ℕ
-entry_number x i =
-    cond (i == 0) (track_of x.maps)
-    (cond (i == 1) (track_of x.spares)
-    (cond (overflow x) 65535
-    (cond (i == 2) (track_of x.first) (x.homes / 32))))
+unfoldable pub entry_numbers : Band → List ℕ
+entry_numbers x =
+    track_of x.maps
+    ∷ track_of x.spares
+    ∷ cond (overflow x) 65535 (track_of x.first)
+    ∷ cond (overflow x) 65535 (x.homes / 32)
+    ∷ []
 
 -- byte j of the eight bytes of a band
 unfoldable pub entry_byte : Band → ℕ → ℕ
-entry_byte x j = cond (j % 2 == 0) (entry_number x (j / 2) / 256) (entry_number x (j / 2) % 256)
+entry_byte x j = let n = slice_index (entry_numbers x) (j / 2) in cond (j % 2 == 0) (n / 256) (n % 256)
 
 -- byte i of the sheet that a layout is written in: (00) (00), the number of bands, the bands, and then (FF)
 unfoldable pub sheet_byte : Layout → ℕ → ℕ

@@ -1,5 +1,5 @@
 // How a medium is divided: bands, each with its areas, given by sector numbers.
-ghost use Rattle.std.specs.Prelude.{◌≡◌, ◌+◌, ◌<◌, ◌≤◌};
+ghost use Rattle.std.specs.Prelude.{◌≡◌, ◌+◌, ◌*◌, ◌<◌, ◌≤◌, ◌==◌};
 ghost use Rattle.maps.specs.Places.{apart, inside, overflow};
 
 pub const MOST_BANDS: usize = 8;
@@ -36,7 +36,7 @@ pub struct Band {
 }
 
 // The last track of the medium, and its bands. Behind the first `count` stands `NO_BAND`.
-#[derive(Clone, Copy, Debug)]
+#[derive(Clone, Copy, PartialEq, Eq, Debug)]
 pub struct Layout {
     pub last: u32,
     pub count: u32,
@@ -69,6 +69,13 @@ impl Extent {
         ensures { result ≡ apart self.first self.size other.first other.size }
     {
         (self.end() <= u64::from(other.first)) | (other.end() <= u64::from(self.first))
+    }
+
+    pub(crate) fn begins_on(self, track: u32) -> bool
+        ensures { result ≡ (self.first == 32 * (track + 2)) }
+    {
+        let tracks_before = u64::from(track) + u64::from(TRACKS_BEFORE_ZERO);
+        u64::from(self.first) == u64::from(SECTORS_PER_TRACK) * tracks_before
     }
 
     // Whether it lies within the tracks 0 to the last, where `end` is the number behind their last sector.

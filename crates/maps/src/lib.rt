@@ -10,4 +10,4 @@ pub mod sheet;
 pub use areas::Area;
 pub use bands::{Band, Layout, MOST_BANDS, Purpose};
 pub use maps::Maps;
-pub use sheet::SHEET_BYTES;
+pub use sheet::{SHEET_BYTES, Sheet};

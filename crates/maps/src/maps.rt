@@ -1,5 +1,5 @@
 // The layout of a medium of this format, once it is known to keep the rules.
-ghost use Rattle.std.specs.Prelude.{◌≡◌, ℕ, true, length, negsuc, slice_index_or};
+ghost use Rattle.std.specs.Prelude.{◌≡◌, ℕ, true, negsuc, slice_index_or};
 ghost use Rattle.maps.specs.Places.{band_formed, no_band, valid};
 ghost use Rattle.std.proofs.Common.{rules, arith};
 
@@ -12,11 +12,10 @@ pub mod listing;
 pub mod reading;
 pub mod writing;
 
-#[derive(Clone, Copy)]
+#[derive(Clone, Copy, PartialEq, Eq, Debug)]
 pub struct Maps {
     layout: Layout,
     ghost kept: { valid layout ≡ true },
-    ghost eight: { length layout.bands ≡ 8 },
     ghost formed: { (k : ℕ) → band_formed layout.count k (slice_index_or layout.bands k no_band) ≡ true },
 }
 

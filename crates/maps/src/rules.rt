@@ -48,29 +48,26 @@ fn bands_apart(band: Band, later: Band) -> bool
 fn apart_from_all(band: Band, later: &[Band]) -> bool
     ensures { result ≡ apart_from_all band later.now }
 {
-    for other in later {
-        if !bands_apart(band, *other) {
-            return false;
-        }
-    }
-    true
+    later.iter().all(|other| bands_apart(band, *other))
 }
 
 // Whether all bands stand, each of them and any two.
 pub(crate) fn bands_stand(end: u32, bands: &[Band]) -> bool
     ensures { result ≡ bands_stand end bands.now }
 {
-    for i in 0..bands.len() {
-        if !(band_stands(end, bands[i]) & apart_from_all(bands[i], &bands[i + 1..])) {
+    let mut rest = bands;
+    while let Some((band, later)) = rest.split_first() {
+        if !(band_stands(end, *band) && apart_from_all(*band, later)) {
             return false;
         }
+        rest = later;
     }
     true
 }
 
 // Whether a layout for a last track that a medium may have keeps the rules.
 pub(crate) fn is_valid(layout: &Layout) -> bool
-    requires { (8 ≤ layout.now.last) × ((layout.now.last ≤ 19999) × (length layout.now.bands ≡ 8)) }
+    requires { (8 ≤ layout.now.last) × (layout.now.last ≤ 19999) }
     ensures { result ≡ valid layout.now }
 {
     let count = layout.count as usize;
@@ -87,9 +84,5 @@ pub(crate) fn homes_in(bands: &[Band]) -> u64
     requires { length bands.now ≤ 8 }
     ensures { result ≡ block_count bands.now }
 {
-    let mut homes = 0;
-    for band in bands {
-        homes += band.home_count();
-    }
-    homes
+    bands.iter().map(|band| band.home_count()).sum()
 }

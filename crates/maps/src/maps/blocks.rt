@@ -22,8 +22,7 @@ impl Maps {
         ensures homes { HomesPlaced self.now.layout }
     {
         let mut rest = block;
-        for i in 0..self.layout.count as usize {
-            let band = self.layout.bands[i];
+        for band in &self.layout.bands[..self.layout.count as usize] {
             if rest < band.homes {
                 return band.home_at(rest);
             }

@@ -13,13 +13,8 @@ impl Maps {
         ensures areas { IfOk result (λ v. AreasListed self.now.layout v.items) }
     {
         let bands = &self.layout.bands[..self.layout.count as usize];
-        let mut areas = Vec::new(heap);
-        for track in 0..self.layout.last + 1 {
-            let Some(area) = begun(bands, track) else {
-                continue;
-            };
-            areas.push(area)?;
-        }
-        Ok(areas)
+        (0..self.layout.last + 1)
+            .filter_map(|track| begun(bands, track))
+            .collect(heap)
     }
 }

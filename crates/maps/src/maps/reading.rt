@@ -1,11 +1,11 @@
 // Reading a layout from its sheet.
-ghost use Rattle.std.specs.Prelude.{◌≡◌, length, MatchResult};
+ghost use Rattle.std.specs.Prelude.{◌≡◌, MatchResult};
 ghost use Rattle.maps.specs.Reading.{SheetRead, SheetRefused, fits_format, layout_answer, reading_layout};
 
 use crate::bands::{SECTORS_PER_TRACK, TRACKS_BEFORE_END};
 use crate::maps::Maps;
 use crate::rules::is_valid;
-use crate::sheet::{is_identified, layout_in};
+use crate::sheet::{Sheet, is_identified, layout_in};
 use format::fault;
 use medium::{Fault, MOST_SECTORS, Refusal};
 
@@ -22,8 +22,7 @@ fn fits_format(sectors: u32) -> bool
 
 impl Maps {
     // The layout that a sheet gives to a medium of so many sectors, if they fit the format and it keeps the rules.
-    pub fn read(sectors: u32, sheet: &[u8]) -> Result<Maps, Fault>
-        requires { length sheet.now ≡ 512 }
+    pub fn read(sectors: u32, sheet: &Sheet) -> Result<Maps, Fault>
         ensures answer { layout_answer result ≡ reading_layout sectors sheet.now }
         ensures rules { MatchResult result (SheetRead sectors sheet.now) (SheetRefused sectors sheet.now) }
     {
@@ -31,7 +30,7 @@ impl Maps {
             return Err(fault(Refusal::WrongSectorCount, 0));
         }
         let layout = layout_in(sectors / SECTORS_PER_TRACK - TRACKS_BEFORE_END, sheet);
-        if !(is_identified(sheet) & is_valid(&layout)) {
+        if !(is_identified(sheet) && is_valid(&layout)) {
             return Err(fault(Refusal::BrokenLayout, 0));
         }
         Ok(Maps { layout })

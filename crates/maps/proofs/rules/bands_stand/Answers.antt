@@ -1,29 +1,34 @@
-use Rattle.std.proofs.Common.{◌≡◌, ℕ, ◌+◌, ◌-◌, Bool, ◌&&◌, List, length, get_or, take, drop, sym, ap, ◌∙◌}
-use Rattle.std.proofs.lemmas.List.{at_drop_all, at_drop_more, take_rest}
+use Rattle.std.proofs.Common.{◌≡◌, ℕ, true, ◌&&◌, List, [], ◌∷◌, length, sym, refl, ap, ◌∙◌, arith}
 use Rattle.std.proofs.lemmas.Bool.{and_left}
-use Rattle.maps.specs.Places.{apart_from_all, band_stands, bands_stand, no_band}
+use Rattle.maps.specs.Places.{apart_from_all, band_stands, bands_stand}
 use Rattle.maps.specs.declared.bands.Band.{Band}
 use Rattle.maps.proofs.rules.bands_stand.Goals as goal
+use Rattle.maps.proofs.rules.bands_stand.Goals.{then-band_stands, else-band_stands}
 
--- the test of band i, as the code has it and as the definition has it
-tested : (end : ℕ) (xs : List Band) (i : ℕ) (r s : Bool) → r ≡ band_stands end (get_or xs i no_band) → s ≡ apart_from_all (get_or xs i no_band) (take (length xs - (i + 1)) (drop (i + 1) xs)) → (r && s) ≡ (band_stands end (get_or xs i no_band) && apart_from_all (get_or xs i no_band) (drop (i + 1) xs))
-tested end xs i r s e f = let rest = ap (apart_from_all (get_or xs i no_band)) (take_rest xs (i + 1)) in cc
-
-pub returns-then-not-band_stands-apart_from_all : goal.returns-then-not-band_stands-apart_from_all
-returns-then-not-band_stands-apart_from_all c =
-    let xs = c.args.bands.now in
-    let i = c.loop-i.i in
-    let step = at_drop_more (bands_stand c.args.end) xs i no_band c.loop-i-test.true in
-    let t = tested c.args.end xs i _ _ c.band_stands.ensures c.apart_from_all.ensures in
-    sym (sym c.loop-i.invariant ∙ step ∙ and_left _ _ (sym t ∙ c.if-not-band_stands-apart_from_all.true))
-
-pub loop-i-preserved : goal.loop-i-preserved
-loop-i-preserved c =
-    let xs = c.args.bands.now in
-    let i = c.loop-i.i in
-    let step = at_drop_more (bands_stand c.args.end) xs i no_band c.loop-i-test.true in
-    let t = tested c.args.end xs i _ _ c.band_stands.ensures c.apart_from_all.ensures in
-    ap (λ t. t && bands_stand c.args.end (drop (i + 1) xs)) (sym c.if-not-band_stands-apart_from_all.false ∙ t) ∙ sym step ∙ c.loop-i.invariant
+-- no band is left
+none_left : (end : ℕ) (xs : List Band) → length xs ≡ 0 → true ≡ bands_stand end xs
+none_left end [] h = refl
+none_left end (x ∷ xs) h = absurd (omega arith)
 
 pub returns : goal.returns
-returns c = sym (at_drop_all (bands_stand c.args.end) c.args.bands.now c.loop-i.i c.loop-i-test.false) ∙ c.loop-i.invariant
+returns c = none_left c.args.end c.loop-band.rest.now c.in_default.ensures.cases ∙ c.loop-band.invariant
+
+pub returns-then-not-apart_from_all : goal.returns-then-not-apart_from_all
+returns-then-not-apart_from_all c =
+    let x = c.in-Some.band.now in
+    let later = c.in-Some.later.now in
+    let test : c.if-band_stands.value ≡ (band_stands c.args.end x && apart_from_all x later) = elim c.if-band_stands.branch [
+      | then-band_stands w ↦ w.value-is ∙ w.apart_from_all.ensures ∙ ap (λ t. t && apart_from_all x later) w.if-band_stands.ensures
+      | else-band_stands w ↦ w.value-is ∙ w.if-band_stands.false ∙ ap (λ t. t && apart_from_all x later) w.if-band_stands.ensures
+    ] in
+    sym (sym c.loop-band.invariant ∙ ap (bands_stand c.args.end) c.in-Some.ensures.cases.0 ∙ and_left _ _ (sym test ∙ c.if-not-apart_from_all.true))
+
+pub loop-band-preserved : goal.loop-band-preserved
+loop-band-preserved c =
+    let x = c.in-Some.band.now in
+    let later = c.in-Some.later.now in
+    let test : c.if-band_stands.value ≡ (band_stands c.args.end x && apart_from_all x later) = elim c.if-band_stands.branch [
+      | then-band_stands w ↦ w.value-is ∙ w.apart_from_all.ensures ∙ ap (λ t. t && apart_from_all x later) w.if-band_stands.ensures
+      | else-band_stands w ↦ w.value-is ∙ w.if-band_stands.false ∙ ap (λ t. t && apart_from_all x later) w.if-band_stands.ensures
+    ] in
+    ap (λ t. t && bands_stand c.args.end later) (sym c.if-not-apart_from_all.false ∙ test) ∙ sym (ap (bands_stand c.args.end) c.in-Some.ensures.cases.0) ∙ c.loop-band.invariant

@@ -23,4 +23,4 @@ returns c =
     let l = c.args.layout.now in
     let homes : leb 1 c.homes_in.result ≡ leb 1 (block_count (bands_of l)) = ap (leb 1) c.homes_in.ensures in
     let rest = ap (λ t. leb 1 l.count && (t && c.bands_stand.result)) homes ∙ ap (λ t. leb 1 l.count && (leb 1 (block_count (bands_of l)) && t)) c.bands_stand.ensures in
-    rest ∙ shorter _ _ _ _ (and_from _ _ (le-leb 8 l.last c.requires.0) (le-leb l.last 19999 c.requires.1.0)) (le-leb l.count 8 (omega arith))
+    rest ∙ shorter _ _ _ _ (and_from _ _ (le-leb 8 l.last c.requires.0) (le-leb l.last 19999 c.requires.1)) (le-leb l.count 8 (omega arith))
