@@ -68,7 +68,7 @@ impl Extent {
     pub(crate) fn is_apart(self, other: Extent) -> bool
         ensures { result ≡ apart self.first self.size other.first other.size }
     {
-        (self.end() <= u64::from(other.first)) | (other.end() <= u64::from(self.first))
+        self.end() <= u64::from(other.first) || other.end() <= u64::from(self.first)
     }
 
     pub(crate) fn begins_on(self, track: u32) -> bool
@@ -82,7 +82,7 @@ impl Extent {
     pub(crate) fn is_inside(self, end: u32) -> bool
         ensures { result ≡ inside end self.first self.size }
     {
-        (FIRST_SECTOR <= self.first) & (self.end() <= u64::from(end))
+        FIRST_SECTOR <= self.first && self.end() <= u64::from(end)
     }
 }
 

@@ -17,7 +17,7 @@ const FEWEST_SECTORS: u32 = SECTORS_PER_TRACK * (LEAST_LAST_TRACK + TRACKS_BEFOR
 fn fits_format(sectors: u32) -> bool
     ensures { result ≡ fits_format sectors }
 {
-    (sectors % SECTORS_PER_TRACK == 0) & ((FEWEST_SECTORS <= sectors) & (sectors <= MOST_SECTORS))
+    sectors % SECTORS_PER_TRACK == 0 && FEWEST_SECTORS <= sectors && sectors <= MOST_SECTORS
 }
 
 impl Maps {
