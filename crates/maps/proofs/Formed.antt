@@ -1,11 +1,10 @@
 -- The layout that a sheet gives, place by place.
-use Rattle.std.proofs.Common.{◌≡◌, ℕ, ◌+◌, ◌*◌, ◌%◌, ◌<◌, ◌≤◌, true, false, ◌&&◌, eqb, ltb, leb, List, map, length, get_or, Ok, Err, Result, sym, refl, ap, ◌∙◌, subst, ⊎_elim, arith}
+use Rattle.std.proofs.Common.{◌≡◌, ℕ, ◌+◌, ◌*◌, ◌%◌, ◌<◌, ◌≤◌, true, false, ◌&&◌, eqb, ltb, leb, List, map, length, get_or, Some, None, Ok, Err, Result, sym, refl, ap, ◌∙◌, subst, ⊎_elim, arith}
 use Rattle.format.specs.Laws.{format_fault}
-use Rattle.maps.specs.Places.{band_formed, bands_of, no_band, valid, whole_tracks}
+use Rattle.maps.specs.Places.{band_formed, bands_of, first_in, no_band, size_in, valid, whole_tracks}
 use Rattle.maps.specs.Reading.{fits_format, last_track, reading_layout}
-use Rattle.maps.specs.Sheets.{band_at, band_count, band_or_none, first_sector, first_track, identified, layout_in, overflow_entry, prime_tracks}
+use Rattle.maps.specs.Sheets.{band_at, band_count, band_or_none, first_sector, identified, layout_in, overflow_entry, primes_at}
 use Rattle.maps.specs.declared.bands.Layout.{Layout}
-use Rattle.maps.specs.declared.bands.Purpose.TheVariants.{Prime}
 use Rattle.medium.specs.declared.faults.Fault.{Fault}
 use Rattle.medium.specs.declared.faults.Refusal.TheVariants.{WrongSectorCount, BrokenLayout}
 use Rattle.std.proofs.lemmas.List.FromFn.{get_or-map-range_with_len, length-map-range_with_len, take-map-range_with_len}
@@ -74,8 +73,8 @@ whole_first t = cond_both (leb t 19999) (32 * (t + 2)) 640064 (λ s. s % 32 ≡ 
 whole_at : (d : List ℕ) (k : ℕ) → whole_tracks (band_at d k) ≡ true
 unfolding band_at
 whole_at d k =
-    let f = cond_both (overflow_entry d k) 0 (first_sector (first_track d k Prime)) (λ s. s % 32 ≡ 0) (λ _. refl) (λ _. whole_first _) in
-    let h = cond_both (overflow_entry d k) 0 (32 * prime_tracks d k) (λ s. s % 32 ≡ 0) (λ _. refl) (λ _. omega arith) in
+    let f = cond_both (overflow_entry d k) None (Some (primes_at d k)) (λ o. first_in o % 32 ≡ 0) (λ _. refl) (λ _. whole_first _) in
+    let h = cond_both (overflow_entry d k) None (Some (primes_at d k)) (λ o. size_in o % 32 ≡ 0) (λ _. refl) (λ _. omega arith) in
     and_from _ _ (and_from _ _ (eq-eqb _ _ (whole_first _)) (eq-eqb _ _ (whole_first _))) (and_from _ _ (eq-eqb _ _ f) (eq-eqb _ _ h))
 
 formed_or_none : (d : List ℕ) (k : ℕ) → band_formed (band_count d) k (band_or_none d k) ≡ true

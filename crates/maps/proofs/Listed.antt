@@ -3,7 +3,7 @@ use Rattle.std.proofs.Common.{◌≡◌, ℕ, zero, suc, ◌+◌, ◌*◌, ◌<�
 use Rattle.maps.specs.Areas.{area_from, begun, begun_in, or_else}
 use Rattle.std.specs.Option.{MatchOption}
 use Rattle.std.specs.List.{cons_option, filter_map, range_with_len}
-use Rattle.maps.specs.Places.{bands_of, no_band, overflow}
+use Rattle.maps.specs.Places.{bands_of, first_home, no_band, overflow}
 use Rattle.maps.specs.declared.areas.Area.{Area}
 use Rattle.maps.specs.declared.bands.Band.{Band}
 use Rattle.maps.specs.declared.bands.Layout.{Layout}
@@ -23,16 +23,16 @@ module _ (k : ℕ) (x : Band) (t : ℕ) where
         cond-false (eqb x.maps (32 * (t + 2))) _ _ (ne_eqb _ _ no_map) ∙ cond-true (eqb x.spares (32 * (t + 2))) _ _ (eq-eqb _ _ e)
 
     module _ (no_alternative : x.spares ≡ 32 * (t + 2) → ⊥) where
-      begun_third : begun_in k x t ≡ cond (not (overflow x) && eqb x.first (32 * (t + 2))) (Some (area_from k x Prime t)) None
+      begun_third : begun_in k x t ≡ cond (not (overflow x) && eqb (first_home x) (32 * (t + 2))) (Some (area_from k x Prime t)) None
       unfolding begun_in
       begun_third =
           cond-false (eqb x.maps (32 * (t + 2))) _ _ (ne_eqb _ _ no_map) ∙ cond-false (eqb x.spares (32 * (t + 2))) _ _ (ne_eqb _ _ no_alternative)
 
-      pub begun_prime : (not (overflow x) && eqb x.first (32 * (t + 2))) ≡ true → begun_in k x t ≡ Some (area_from k x Prime t)
-      begun_prime e = begun_third ∙ cond-true (not (overflow x) && eqb x.first (32 * (t + 2))) _ _ e
+      pub begun_prime : (not (overflow x) && eqb (first_home x) (32 * (t + 2))) ≡ true → begun_in k x t ≡ Some (area_from k x Prime t)
+      begun_prime e = begun_third ∙ cond-true (not (overflow x) && eqb (first_home x) (32 * (t + 2))) _ _ e
 
-      pub begun_none : (not (overflow x) && eqb x.first (32 * (t + 2))) ≡ false → begun_in k x t ≡ None
-      begun_none e = begun_third ∙ cond-false (not (overflow x) && eqb x.first (32 * (t + 2))) _ _ e
+      pub begun_none : (not (overflow x) && eqb (first_home x) (32 * (t + 2))) ≡ false → begun_in k x t ≡ None
+      begun_none e = begun_third ∙ cond-false (not (overflow x) && eqb (first_home x) (32 * (t + 2))) _ _ e
 
 -- the area of the first band that has one there, or none
 abbrev pub BegunFirst : ℕ → List Band → ℕ → Option Area → Type 0

@@ -1,13 +1,13 @@
 -- The test of a layout decides the rules.
-use Rattle.std.proofs.Common.{◌≡◌, ℕ, ◌+◌, ◌-◌, ◌*◌, ◌<◌, ◌≤◌, true, false, cond, ◌&&◌, eqb, ltb, leb, List, get_or, sym, refl, ap, ◌∙◌, subst, ⊎_elim, arith}
+use Rattle.std.proofs.Common.{◌≡◌, ℕ, ◌+◌, ◌-◌, ◌*◌, ◌<◌, ◌≤◌, true, false, ◌&&◌, eqb, ltb, leb, List, get_or, Some, None, is_none, sym, refl, ap, ◌∙◌, subst, ⊎_elim, arith}
 use Rattle.maps.proofs.Formed.{band_used, used_many}
-use Rattle.maps.proofs.Standing.{Stands, all_stand, apart_by, each_stands, homes_within, one_area, pair_from, pair_rises, pair_separate, primes_inside, some_home, stands, two_apart}
-use Rattle.maps.specs.Places.{InArea, apart, band_stands, bands_apart, bands_of, bands_stand, block_count, first_of, inside, no_band, overflow, rises_to, sectors_for, size_of, valid}
+use Rattle.maps.proofs.Standing.{Stands, all_stand, apart_by, each_stands, homes_within, one_area, pair_from, pair_rises, pair_separate, primes_inside, primes_pass, some_home, stands, two_apart}
+use Rattle.maps.specs.Places.{InArea, apart, band_stands, bands_apart, bands_of, bands_stand, block_count, first_home, first_in, first_of, homes_of, inside, no_band, overflow, rises_to, sectors_for, size_in, size_of, valid}
 use Rattle.maps.specs.Rules.{HasPrime, LayoutRules, LiesIn, tracks_of}
-use Rattle.maps.specs.Sheets.{band_at, band_count, first_sector, first_track, identified, layout_in, overflow_entry, prime_tracks}
+use Rattle.maps.specs.Sheets.{band_at, band_count, first_sector, first_track, identified, layout_in, overflow_entry, prime_tracks, primes_at}
 use Rattle.maps.specs.declared.bands.Purpose.{Purpose}
 use Rattle.maps.specs.declared.bands.Purpose.TheVariants.{Map, Alternative, Prime}
-use Rattle.std.proofs.lemmas.Bool.{and_from, and_parts, both_ways, cases_Bool, cases_lt, cases_order, cond_both, cond-false, cond-true, eq-eqb, eqb-true, le-leb, leb-true, lt-ltb, ltb-true, ne_eqb, or_cases, or_left, or_right}
+use Rattle.std.proofs.lemmas.Bool.{and_from, and_parts, both_ways, cases_Bool, cases_lt, cases_order, cond_both, cond-false, cond-true, eq-eqb, eqb-true, le-leb, leb-true, lt-ltb, ltb-true, or_cases, or_left, or_right}
 
 -- the first sector of a track that a medium may have, and of one that it may not
 first_near : (t : ℕ) → t ≤ 19999 → first_sector t ≡ 32 * (t + 2)
@@ -50,17 +50,22 @@ module _ (n : ℕ) (d : List ℕ) (small : n ≤ 19999) where
     pub size : size_of (band_at d k) a ≡ 32 * tracks_of d k a
     pub end : first_track d k a + tracks_of d k a ≤ n + 1
 
-  prime_first : (k : ℕ) → overflow_entry d k ≡ false → (band_at d k).first ≡ first_sector (first_track d k Prime)
+  pub no_primes : (k : ℕ) → overflow_entry d k ≡ true → (band_at d k).primes ≡ None
   unfolding band_at
-  prime_first k e = cond-false (overflow_entry d k) _ _ e
+  no_primes k e = cond-true (overflow_entry d k) _ _ e
 
-  prime_homes : (k : ℕ) → overflow_entry d k ≡ false → (band_at d k).homes ≡ 32 * prime_tracks d k
+  some_primes : (k : ℕ) → overflow_entry d k ≡ false → (band_at d k).primes ≡ Some (primes_at d k)
   unfolding band_at
-  prime_homes k e = cond-false (overflow_entry d k) _ _ e
+  some_primes k e = cond-false (overflow_entry d k) _ _ e
 
-  pub no_prime : (k : ℕ) → overflow_entry d k ≡ true → ((band_at d k).first ≡ 0) × ((band_at d k).homes ≡ 0)
-  unfolding band_at
-  no_prime k e = (cond-true (overflow_entry d k) _ _ e, cond-true (overflow_entry d k) _ _ e)
+  no_prime : (k : ℕ) → overflow_entry d k ≡ true → (first_home (band_at d k) ≡ 0) × (homes_of (band_at d k) ≡ 0)
+  no_prime k e = (ap first_in (no_primes k e), ap size_in (no_primes k e))
+
+  prime_first : (k : ℕ) → overflow_entry d k ≡ false → first_home (band_at d k) ≡ first_sector (first_track d k Prime)
+  prime_first k e = ap first_in (some_primes k e)
+
+  prime_homes : (k : ℕ) → overflow_entry d k ≡ false → homes_of (band_at d k) ≡ 32 * prime_tracks d k
+  prime_homes k e = ap size_in (some_primes k e)
 
   map_first : (k : ℕ) → (band_at d k).maps ≡ first_sector (first_track d k Map)
   unfolding band_at
@@ -132,16 +137,9 @@ module _ (n : ℕ) (d : List ℕ) (small : n ≤ 19999) where
 
     some_track_rule : (k : ℕ) → HasPrime d k → 1 ≤ prime_tracks d k
     some_track_rule k h =
-        ⊎_elim
-        (λ (p : 0 < prime_tracks d k). p)
-        (λ (z : prime_tracks d k ≤ 0).
         let hs = prime_homes k h.1 in
-        let f = prime_first k h.1 in
-        let low = first_some (first_track d k Prime) in
-        let none : (band_at d k).homes ≡ 0 = omega arith in
-        let zero_first : (band_at d k).first ≡ 0 = eqb-true _ _ (sym (cond-true (overflow (band_at d k)) _ _ (eq-eqb _ _ none)) ∙ (each k h.0).primes) in
-        absurd (omega arith))
-        (cases_lt 0 (prime_tracks d k))
+        let some = (each k h.0).primes.some_home (ap is_none (some_primes k h.1)) in
+        omega arith
 
     prime_area : (k : ℕ) → HasPrime d k → AreaAt k Prime
     prime_area k h =
@@ -151,10 +149,10 @@ module _ (n : ℕ) (d : List ℕ) (small : n ≤ 19999) where
 
     rising_rule : (k j : ℕ) → HasPrime d k → HasPrime d j → k < j → first_track d k Prime < first_track d j Prime
     rising_rule k j h m l =
-        let some : (i : ℕ) → HasPrime d i → overflow (band_at d i) ≡ false = λ i p. let s = some_track_rule i p in let hs = prime_homes i p.1 in ne_eqb _ _ (λ e. omega arith) in
+        let some : (i : ℕ) → HasPrime d i → overflow (band_at d i) ≡ false = λ i p. ap is_none (some_primes i p.1) in
         let fk = (prime_area k h).first in
         let fj = (prime_area j m).first in
-        let less : (band_at d k).first < (band_at d j).first =
+        let less : first_home (band_at d k) < first_home (band_at d j) =
         ⊎_elim
         (λ u. absurd (both_ways _ (some k h) u))
         (λ u. ⊎_elim (λ v. absurd (both_ways _ (some j m) v)) (λ v. ltb-true _ _ v) (or_cases (overflow (band_at d j)) _ u))
@@ -181,7 +179,7 @@ module _ (n : ℕ) (d : List ℕ) (small : n ≤ 19999) where
       let home = some_home bs (leb-true _ _ e.0) in
       let within = home.1 in
       let at_home : home.0 < band_count d = omega arith in
-      let homes : 1 ≤ (band_at d home.0).homes = subst (λ x. 1 ≤ x.homes) (band_used n d home.0 few at_home) home.2 in
+      let homes : 1 ≤ homes_of (band_at d home.0) = subst (λ x. 1 ≤ homes_of x) (band_used n d home.0 few at_home) home.2 in
       let prime : overflow_entry d home.0 ≡ false = ⊎_elim (λ o. absurd (let z = (no_prime home.0 o).1 in omega arith)) (λ o. o) (cases_Bool (overflow_entry d home.0)) in
       record {
         first_byte = eqb-true _ _ ids.0;
@@ -276,29 +274,28 @@ module _ (n : ℕ) (d : List ℕ) (small : n ≤ 19999) where
         let e = p.end in
         within_tracks (sectors_for n) (first_of (band_at d k) a) (size_of (band_at d k) a) (omega arith) (omega arith)
 
-    primes_stand : (k : ℕ) → k < band_count d → cond (overflow (band_at d k)) (eqb (band_at d k).first 0) (inside (sectors_for n) (band_at d k).first (band_at d k).homes) ≡ true
-    primes_stand k h =
+    primes_kept : (k : ℕ) → k < band_count d → overflow (band_at d k) ≡ false → (1 ≤ homes_of (band_at d k)) × (inside (sectors_for n) (first_home (band_at d k)) (homes_of (band_at d k)) ≡ true)
+    primes_kept k h there =
         ⊎_elim
-        (λ o. let z = no_prime k o in cond-true (overflow (band_at d k)) _ _ (eq-eqb _ _ z.1) ∙ eq-eqb _ _ z.0)
+        (λ o. absurd (both_ways _ there (ap is_none (no_primes k o))))
         (λ o.
         let c = prime_count k o in
         let s = r.some_track k (h, o) in
         let hs = prime_homes k o in
-        cond-false (overflow (band_at d k)) _ _ (ne_eqb _ _ (λ e. omega arith)) ∙ area_inside k Prime h (omega arith))
+        (omega arith, area_inside k Prime h (omega arith)))
         (cases_Bool (overflow_entry d k))
 
     band_kept : (k : ℕ) → k < band_count d → band_stands (sectors_for n) (band_at d k) ≡ true
     unfolding band_stands
     band_kept k h =
         and_from _ _ (and_from _ _ (area_inside k Map h (omega arith)) (area_inside k Alternative h (omega arith)))
-        (and_from _ _ (primes_stand k h)
         (and_from _ _ (areas_apart k k Map Alternative h h (λ _ e. absurd (map_alternative e)))
-        (and_from _ _ (areas_apart k k Map Prime h h (λ _ e. absurd (map_prime e))) (areas_apart k k Alternative Prime h h (λ _ e. absurd (alternative_prime e))))))
+        (primes_pass (sectors_for n) (band_at d k) (band_at d k).primes (primes_kept k h) (areas_apart k k Map Prime h h (λ _ e. absurd (map_prime e))) (areas_apart k k Alternative Prime h h (λ _ e. absurd (alternative_prime e)))))
 
     two_kept : (k j : ℕ) → k < j → j < band_count d → bands_apart (band_at d k) (band_at d j) ≡ true
     two_kept k j l m =
         let h : k < band_count d = omega arith in
-        let over : (i : ℕ) → overflow_entry d i ≡ true → overflow (band_at d i) ≡ true = λ i o. eq-eqb _ _ (no_prime i o).1 in
+        let over : (i : ℕ) → overflow_entry d i ≡ true → overflow (band_at d i) ≡ true = λ i o. ap is_none (no_primes i o) in
         let rises : rises_to (band_at d k) (band_at d j) ≡ true =
         ⊎_elim
         (λ o. or_left _ _ (over k o))
@@ -313,7 +310,7 @@ module _ (n : ℕ) (d : List ℕ) (small : n ≤ 19999) where
         let cj = prime_count j u in
         let fk = (kept_area k Prime h (omega arith)).first in
         let fj = (kept_area j Prime m (omega arith)).first in
-        or_right (overflow (band_at d j)) (ltb (band_at d k).first (band_at d j).first) (lt-ltb (band_at d k).first (band_at d j).first (omega arith)))
+        or_right (overflow (band_at d j)) (ltb (first_home (band_at d k)) (first_home (band_at d j))) (lt-ltb (first_home (band_at d k)) (first_home (band_at d j)) (omega arith)))
         (cases_Bool (overflow_entry d j))))
         (cases_Bool (overflow_entry d k)) in
         pair_from (band_at d k) (band_at d j) rises (λ a b. areas_apart k j a b h m (λ e _. omega arith))
@@ -334,7 +331,7 @@ module _ (n : ℕ) (d : List ℕ) (small : n ≤ 19999) where
         let s = r.some_track i p in
         let hs = prime_homes i p.1 in
         let at : i < band_count d = p.0 in
-        let same = ap (λ x. x.homes) (band_used n d i few at) in
+        let same = ap homes_of (band_used n d i few at) in
         let w = homes_within bs i (omega arith) in
         let some : 1 ≤ block_count bs = omega arith in
         and_from _ _ (and_from _ _ (eq-eqb _ _ r.first_byte) (eq-eqb _ _ r.second_byte))

@@ -2,7 +2,7 @@
 use Rattle.std.proofs.Common.{◌≡◌, ℕ, ◌<◌, ◌≤◌, true, false, ◌&&◌, ltb, List, map, sym, refl, ap, ◌∙◌, subst, inl, inr, ⊎_elim, arith}
 use Rattle.format.specs.Laws.{format_fault}
 use Rattle.maps.proofs.Formed.{band_in, fitting_tracks, tracks_fitting}
-use Rattle.maps.proofs.Ruled.{kept_area, no_prime, rules_kept, rules_pass}
+use Rattle.maps.proofs.Ruled.{kept_area, no_primes, rules_kept, rules_pass}
 use Rattle.maps.specs.Places.{band_of, first_of, no_band, size_of, valid}
 use Rattle.maps.specs.Reading.{LastTrack, LayoutGiven, SheetRefused, fits_format, last_track}
 use Rattle.maps.specs.Rules.{LayoutRules}
@@ -47,7 +47,7 @@ module _ (n : ℕ) (d : List ℕ) (r : LayoutRules n d) (high : n ≤ 19999) (lo
         count = refl;
         first = λ k a h some. ap (λ x. first_of x a) (used k h) ∙ (kept_area n d high low r k a h some).first;
         size = λ k a h some. ap (λ x. size_of x a) (used k h) ∙ (kept_area n d high low r k a h some).size;
-        without_prime = λ k h o. let z = no_prime n d high k o in (ap (λ x. x.first) (used k h) ∙ z.0, ap (λ x. x.homes) (used k h) ∙ z.1);
+        without_prime = λ k h o. ap (λ x. x.primes) (used k h) ∙ no_primes n d high k o;
         no_more = beyond;
       }
 

@@ -2,11 +2,11 @@
 use Rattle.std.proofs.Common.{◌≡◌, ℕ, zero, suc, ◌+◌, ◌-◌, ◌*◌, ◌/◌, ◌%◌, ◌<◌, ◌≤◌, true, false, not, ◌&&◌, ◌||◌, eqb, ltb, List, [], ◌∷◌, ◌++◌, map, length, get_or, Some, None, Option, sym, refl, ap, ◌∙◌, subst, ⊎_elim, arith}
 use mathlib.Core.List.Memᴰ
 use mathlib.Core.List.{Memᴰ}
-use Rattle.maps.proofs.Found.{laid, one_place}
+use Rattle.maps.proofs.Found.{laid, one_place, some_area}
 use Rattle.maps.proofs.Listed.{areas_before, as_list, before_listed, begun_alternative, begun_map, begun_none, begun_prime}
 use Rattle.maps.proofs.Standing.{Stands, each_stands, primes_inside, stands}
 use Rattle.maps.specs.Areas.{AreaTold, AreasListed, all_areas, area_from, begun, begun_in, or_else}
-use Rattle.maps.specs.Places.{InArea, band_formed, band_of, bands_of, first_of, no_band, overflow, sectors_for, size_of, unused, valid, whole_tracks}
+use Rattle.maps.specs.Places.{InArea, band_formed, band_of, bands_of, first_home, first_of, homes_of, no_band, overflow, sectors_for, size_of, unused, valid, whole_tracks}
 use Rattle.maps.specs.declared.areas.Area.{Area}
 use Rattle.maps.specs.declared.bands.Band.{Band}
 use Rattle.maps.specs.declared.bands.Layout.{Layout}
@@ -37,11 +37,11 @@ module _ (k : ℕ) (x : Band) (t : ℕ) where
   begun_as : (a : Purpose) (r : Area) → Starts x a t → begun_in k x t ≡ Some (area_from k x a t) → begun_in k x t ≡ Some r → Begun k x t r
   begun_as a r s e f = subst (Begun k x t) (same_some (area_from k x a t) r (begun_in k x t) e f) (record { band = refl; first = refl; last = refl; starts = s })
 
-  prime_test : (overflow x ≡ true → ⊥) → x.first ≡ 32 * (t + 2) → (not (overflow x) && eqb x.first (32 * (t + 2))) ≡ true
-  prime_test n e = and_from _ _ (not_from_false _ (⊎_elim (λ o. absurd (n o)) (λ o. o) (cases_Bool (overflow x)))) (eq-eqb _ _ e)
+  prime_test : overflow x ≡ false → first_home x ≡ 32 * (t + 2) → (not (overflow x) && eqb (first_home x) (32 * (t + 2))) ≡ true
+  prime_test n e = and_from _ _ (not_from_false _ n) (eq-eqb _ _ e)
 
-  in_sound : (r : Area) → begun_in k x t ≡ Some r → Begun k x t r
-  in_sound r f =
+  in_sound : (overflow x ≡ false → 1 ≤ homes_of x) → (r : Area) → begun_in k x t ≡ Some r → Begun k x t r
+  in_sound homes r f =
       ⊎_elim
       (λ (m : x.maps ≡ 32 * (t + 2)). begun_as Map r (m, omega arith) (begun_map k x t m) f)
       (λ (m : x.maps ≡ 32 * (t + 2) → ⊥).
@@ -50,12 +50,11 @@ module _ (k : ℕ) (x : Band) (t : ℕ) where
       (λ (s : x.spares ≡ 32 * (t + 2) → ⊥).
       ⊎_elim
       (λ p.
-      let two = and_parts (not (overflow x)) (eqb x.first (32 * (t + 2))) p in
+      let two = and_parts (not (overflow x)) (eqb (first_home x) (32 * (t + 2))) p in
       let some : overflow x ≡ false = not-true (overflow x) two.0 in
-      let homes : 1 ≤ x.homes = ⊎_elim (λ (h : 0 < x.homes). h) (λ (z : x.homes ≤ 0). absurd (let n : x.homes ≡ 0 = omega arith in let b : true ≡ false = sym (eq-eqb _ _ n) ∙ some in let w : ◌≡◌ {A = ℕ} 0 1 = cc in omega arith)) (cases_lt 0 x.homes) in
-      begun_as Prime r (eqb-true _ _ two.1, homes) (begun_prime k x t m s p) f)
+      begun_as Prime r (eqb-true _ _ two.1, homes some) (begun_prime k x t m s p) f)
       (λ p. absurd (some_none r (begun_in k x t) f (begun_none k x t m s p)))
-      (cases_Bool (not (overflow x) && eqb x.first (32 * (t + 2)))))
+      (cases_Bool (not (overflow x) && eqb (first_home x) (32 * (t + 2)))))
       (cases_eq x.spares (32 * (t + 2))))
       (cases_eq x.maps (32 * (t + 2)))
 
@@ -75,18 +74,22 @@ module _ (k : ℕ) (x : Band) (t : ℕ) where
       third Alternative w m u = u w.0
       third Prime w m u =
           let h = w.1 in
-          some_none _ (begun_in k x t) (begun_prime k x t m u (prime_test (λ o. let z : x.homes ≡ 0 = eqb-true _ _ o in omega arith) w.0)) f
+          some_none _ (begun_in k x t) (begun_prime k x t m u (prime_test (some_area x.primes h) w.0)) f
 
 -- the area that begins on a track, over all bands
 abbrev Sound : ℕ → List Band → ℕ → Area → Type 0
 Sound n bs t r = (j : ℕ) × (j < length bs) × Begun (n + j) (get_or bs j no_band) t r
 
-all_sound : (n : ℕ) (bs : List Band) (t : ℕ) (r : Area) → begun n bs t ≡ Some r → Sound n bs t r
-all_sound n [] t r f = absurd (some_none r None f refl)
-all_sound n (x ∷ xs) t r f = by (begun_in n x t) refl f (λ g. all_sound (n + 1) xs t r g)
+-- each prime area has a sector
+abbrev Homed : List Band → Type 0
+Homed bs = (j : ℕ) → j < length bs → overflow (get_or bs j no_band) ≡ false → 1 ≤ homes_of (get_or bs j no_band)
+
+all_sound : (n : ℕ) (bs : List Band) → Homed bs → (t : ℕ) (r : Area) → begun n bs t ≡ Some r → Sound n bs t r
+all_sound n [] homed t r f = absurd (some_none r None f refl)
+all_sound n (x ∷ xs) homed t r f = by (begun_in n x t) refl f (λ g. all_sound (n + 1) xs (λ j h. homed (suc j) (omega arith)) t r g)
   where
     by : (o : Option Area) → begun_in n x t ≡ o → or_else o (begun (n + 1) xs t) ≡ Some r → (begun (n + 1) xs t ≡ Some r → Sound (n + 1) xs t r) → Sound n (x ∷ xs) t r
-    by (Some a) e g more = let z : n ≡ n + 0 = omega arith in (0, omega arith, subst (λ i. Begun i x t r) z (in_sound n x t r (e ∙ g)))
+    by (Some a) e g more = let z : n ≡ n + 0 = omega arith in (0, omega arith, subst (λ i. Begun i x t r) z (in_sound n x t (homed 0 (omega arith)) r (e ∙ g)))
     by None e g more =
         let m = more g in
         let l = m.1 in
@@ -125,14 +128,14 @@ firsts rs = map (λ r. r.first) rs
 
 whole_by : (x : Band) → whole_tracks x ≡ true → (b : Purpose) → (first_of x b % 32 ≡ 0) × (size_of x b % 32 ≡ 0)
 whole_by x w Map =
-    let two = and_parts (eqb (x.maps % 32) 0 && eqb (x.spares % 32) 0) (eqb (x.first % 32) 0 && eqb (x.homes % 32) 0) w in
+    let two = and_parts (eqb (x.maps % 32) 0 && eqb (x.spares % 32) 0) (eqb (first_home x % 32) 0 && eqb (homes_of x % 32) 0) w in
     (eqb-true _ _ (and_parts (eqb (x.maps % 32) 0) (eqb (x.spares % 32) 0) two.0).0, refl)
 whole_by x w Alternative =
-    let two = and_parts (eqb (x.maps % 32) 0 && eqb (x.spares % 32) 0) (eqb (x.first % 32) 0 && eqb (x.homes % 32) 0) w in
+    let two = and_parts (eqb (x.maps % 32) 0 && eqb (x.spares % 32) 0) (eqb (first_home x % 32) 0 && eqb (homes_of x % 32) 0) w in
     (eqb-true _ _ (and_parts (eqb (x.maps % 32) 0) (eqb (x.spares % 32) 0) two.0).1, refl)
 whole_by x w Prime =
-    let two = and_parts (eqb (x.maps % 32) 0 && eqb (x.spares % 32) 0) (eqb (x.first % 32) 0 && eqb (x.homes % 32) 0) w in
-    let h = and_parts (eqb (x.first % 32) 0) (eqb (x.homes % 32) 0) two.1 in
+    let two = and_parts (eqb (x.maps % 32) 0 && eqb (x.spares % 32) 0) (eqb (first_home x % 32) 0 && eqb (homes_of x % 32) 0) w in
+    let h = and_parts (eqb (first_home x % 32) 0) (eqb (homes_of x % 32) 0) two.1 in
     (eqb-true _ _ h.0, eqb-true _ _ h.1)
 
 -- the area of a band that stands lies within the tracks
@@ -145,13 +148,16 @@ module _ (l : Layout) (kept : valid l ≡ true) (eight : length l.bands ≡ 8) (
   used : (k : ℕ) → k < l.count → get_or (bands_of l) k no_band ≡ band_of l k
   used k h = get_or-take l.count l.bands k no_band h
 
+  homed : Homed (bands_of l)
+  homed j h = (stands (sectors_for l.last) (get_or (bands_of l) j no_band) (each_stands (sectors_for l.last) (bands_of l) (laid l kept eight).stand j h)).primes.some_home
+
   rise : (t : ℕ) → Rising (firsts (areas_before l t)) × ((k : ℕ) → k < length (firsts (areas_before l t)) → get_or (firsts (areas_before l t)) k 0 < t)
   rise zero = ((λ k h. absurd (omega arith)), (λ k h. absurd (omega arith)))
   rise (suc t) = by (begun 1 (bands_of l) t) refl (rise t)
     where
       by : (o : Option Area) → begun 1 (bands_of l) t ≡ o → Rising (firsts (areas_before l t)) × ((k : ℕ) → k < length (firsts (areas_before l t)) → get_or (firsts (areas_before l t)) k 0 < t) → Rising (firsts (areas_before l t ++ as_list o)) × ((k : ℕ) → k < length (firsts (areas_before l t ++ as_list o)) → get_or (firsts (areas_before l t ++ as_list o)) k 0 < suc t)
       by (Some r) e p =
-          let first : r.first ≡ t = (all_sound 1 (bands_of l) t r e).2.first in
+          let first : r.first ≡ t = (all_sound 1 (bands_of l) homed t r e).2.first in
           let same : firsts (areas_before l t) ++ t ∷ [] ≡ firsts (areas_before l t ++ r ∷ []) = ap (λ n. firsts (areas_before l t) ++ n ∷ []) (sym first) ∙ sym (map_push (λ s. s.first) (areas_before l t) r) in
           (subst Rising same (rising_push (firsts (areas_before l t)) t p.0 p.1), subst (λ ys. (k : ℕ) → k < length ys → get_or ys k 0 < suc t) same (below_push (firsts (areas_before l t)) t p.1))
       by None e p =
@@ -163,7 +169,7 @@ module _ (l : Layout) (kept : valid l ≡ true) (eight : length l.bands ≡ 8) (
 
   told : (t : ℕ) (r : Area) → begun 1 (bands_of l) t ≡ Some r → AreaTold l r
   told t r e =
-      let s = all_sound 1 (bands_of l) t r e in
+      let s = all_sound 1 (bands_of l) homed t r e in
       let j : ℕ = s.0 in
       let within = s.1 in
       let long = (laid l kept eight).long in
@@ -211,7 +217,7 @@ module _ (l : Layout) (kept : valid l ≡ true) (eight : length l.bands ≡ 8) (
       by : (o : Option Area) → begun 1 (bands_of l) t ≡ o → (r : Area) × Memᴰ r (areas_before l t ++ as_list o) × (r.band ≡ k + 1) × (r.purpose ≡ a)
       by None e = let long = (laid l kept eight).long in absurd (all_none 1 (bands_of l) t k a e (omega arith) s)
       by (Some r) e =
-          let g = all_sound 1 (bands_of l) t r e in
+          let g = all_sound 1 (bands_of l) homed t r e in
           let long = (laid l kept eight).long in
           let i = 32 * (t + 2) in
           let b0 = g.2.starts.0 in

@@ -1,27 +1,28 @@
 -- The bytes that a layout is written in, and what reading them gives.
-use Rattle.std.proofs.Common.{◌≡◌, ℕ, ◌+◌, ◌-◌, ◌*◌, ◌/◌, ◌%◌, ◌<◌, ◌≤◌, true, false, cond, ◌&&◌, ◌||◌, eqb, ltb, leb, List, map, length, get_or, Ok, sym, refl, ap, ◌∙◌, ⊎_elim, arith}
+use Rattle.std.proofs.Common.{◌≡◌, ℕ, ◌+◌, ◌-◌, ◌*◌, ◌/◌, ◌%◌, ◌<◌, ◌≤◌, true, false, cond, ◌&&◌, ◌||◌, eqb, ltb, leb, List, map, length, get_or, Some, None, Option, is_none, Ok, sym, refl, ap, ◌∙◌, ⊎_elim, arith}
 use Rattle.maps.proofs.Formed.{kept, tracks_fitting}
 use Rattle.maps.proofs.Found.{laid, last_low}
 use Rattle.maps.proofs.Standing.{Stands, each_stands, primes_inside, stands}
-use Rattle.maps.specs.Places.{band_formed, band_of, band_stands, bands_of, no_band, overflow, sectors_for, unused, valid, whole_tracks}
+use Rattle.maps.specs.Places.{band_formed, band_of, band_stands, bands_of, first_home, first_in, homes_of, no_band, overflow, sectors_for, size_in, unused, valid, whole_tracks}
 use Rattle.maps.specs.Reading.{last_track, reading_layout}
-use Rattle.maps.specs.Sheets.{Writable, band_at, band_count, band_or_none, entry_byte, entry_numbers, first_sector, first_track, identified, layout_in, overflow_entry, prime_tracks, sheet_byte, sheet_of, track_of, two_at}
+use Rattle.maps.specs.Sheets.{Writable, band_at, band_count, band_or_none, entry_byte, entry_numbers, first_sector, first_track, identified, layout_in, overflow_entry, prime_numbers, prime_tracks, sheet_byte, sheet_of, track_of, two_at}
 use Rattle.maps.specs.declared.bands.Band.{Band}
+use Rattle.maps.specs.declared.bands.Extent.{Extent}
 use Rattle.maps.specs.declared.bands.Layout.{Layout}
 use Rattle.maps.specs.declared.bands.Purpose.TheVariants.{Map, Alternative, Prime}
 use Rattle.std.proofs.lemmas.List.FromFn.{get_or-map-range_with_len, length-map-range_with_len}
 use Rattle.std.proofs.lemmas.List.{ext_get_or, get_or-take}
 use Rattle.std.specs.List.{range_with_len}
-use Rattle.std.proofs.lemmas.Bool.{and_from, and_parts, both_ways, cases_Bool, cases_lt, cond-false, cond-true, eq-eqb, eqb-false, eqb-true, le-leb, le-ltb, lt-ltb, ne_eqb, or_cases}
+use Rattle.std.proofs.lemmas.Bool.{and_from, and_parts, both_ways, cases_Bool, cases_lt, cond-false, cond-true, eq-eqb, eqb-true, false≢true, true≢false, le-leb, le-ltb, lt-ltb, ne_eqb, or_cases}
 
--- the numbers of an entry in place of a prime area, and those of one
-pub numbers_none : (x : Band) → overflow x ≡ true → (get_or (entry_numbers x) 2 0 ≡ 65535) × (get_or (entry_numbers x) 3 0 ≡ 65535)
-unfolding entry_numbers
-numbers_none x o = (cond-true (overflow x) _ _ o, cond-true (overflow x) _ _ o)
+-- a prime area that is there or not
+none_there : (o : Option Extent) → is_none o ≡ true → o ≡ None
+none_there None t = refl
+none_there (Some e) t = absurd (false≢true t)
 
-pub numbers_some : (x : Band) → overflow x ≡ false → (get_or (entry_numbers x) 2 0 ≡ track_of x.first) × (get_or (entry_numbers x) 3 0 ≡ x.homes / 32)
-unfolding entry_numbers
-numbers_some x o = (cond-false (overflow x) _ _ o, cond-false (overflow x) _ _ o)
+some_there : (o : Option Extent) → is_none o ≡ false → o ≡ Some (record { first = first_in o; size = size_in o })
+some_there None t = absurd (true≢false t)
+some_there (Some e) t = refl
 
 -- the bytes of a sheet, by their place
 pub byte_identifier : (l : Layout) (i : ℕ) → i < 2 → sheet_byte l i ≡ 0
@@ -66,9 +67,9 @@ module _ (l : Layout) (kept : valid l ≡ true) (eight : length l.bands ≡ 8) w
         map_high = omega arith;
         spares_low = s.spares_low;
         spares_high = omega arith;
-        prime_low = λ p. (primes p).0;
-        prime_high = λ p. let q = (primes p).1 in omega arith;
-        homes_high = ⊎_elim (λ (p : 0 < (band_of l k).homes). let q = (primes p).1 in omega arith) (λ (z : (band_of l k).homes ≤ 0). omega arith) (cases_lt 0 (band_of l k).homes);
+        prime_low = λ o. (primes (s.primes.some_home o)).0;
+        prime_high = λ o. let h = s.primes.some_home o in let q = (primes h).1 in omega arith;
+        homes_high = ⊎_elim (λ (p : 0 < homes_of (band_of l k)). let q = (primes p).1 in omega arith) (λ (z : homes_of (band_of l k) ≤ 0). omega arith) (cases_lt 0 (homes_of (band_of l k)));
       }
 
 -- a number's two bytes, and the number again
@@ -95,8 +96,11 @@ first_back s low high whole =
     cond-true (leb (s / 32 - 2) 19999) _ _ (le-leb _ _ near) ∙ e
 
 -- bands with the same parts, and layouts
-same_parts : (m s f n m' s' f' n' : ℕ) → m ≡ m' → s ≡ s' → f ≡ f' → n ≡ n' → ◌≡◌ {A = Band} (record { maps = m; spares = s; first = f; homes = n }) (record { maps = m'; spares = s'; first = f'; homes = n' })
-same_parts m s f n m' s' f' n' a b e g = cc
+same_parts : (m s : ℕ) (o : Option Extent) (m' s' : ℕ) (o' : Option Extent) → m ≡ m' → s ≡ s' → o ≡ o' → ◌≡◌ {A = Band} (record { maps = m; spares = s; primes = o }) (record { maps = m'; spares = s'; primes = o' })
+same_parts m s o m' s' o' a b e = cc
+
+same_extent : (f n f' n' : ℕ) → f ≡ f' → n ≡ n' → ◌≡◌ {A = Option Extent} (Some (record { first = f; size = n })) (Some (record { first = f'; size = n' }))
+same_extent f n f' n' a b = cc
 
 same_layout : (n c : ℕ) (xs : List Band) (c' : ℕ) (ys : List Band) → c ≡ c' → xs ≡ ys → ◌≡◌ {A = Layout} (record { last = n; count = c; bands = xs }) (record { last = n; count = c'; bands = ys })
 same_layout n c xs c' ys e f = cc
@@ -121,7 +125,7 @@ module _ (l : Layout) (kept : valid l ≡ true) (eight : length l.bands ≡ 8) (
       let lo : get_or d (p + 1) 0 ≡ get_or (entry_numbers x) i 0 % 256 = ap (λ n. get_or d n 0) f ∙ byte_at k (2 * i + 1) h (omega arith) ∙ half_low x i in
       omega arith
 
-  tracks_back : (k : ℕ) → k < l.count → (first_track d k Map ≡ track_of (band_of l k).maps) × (first_track d k Alternative ≡ track_of (band_of l k).spares) × (first_track d k Prime ≡ get_or (entry_numbers (band_of l k)) 2 0) × (prime_tracks d k ≡ get_or (entry_numbers (band_of l k)) 3 0)
+  tracks_back : (k : ℕ) → k < l.count → (first_track d k Map ≡ track_of (band_of l k).maps) × (first_track d k Alternative ≡ track_of (band_of l k).spares) × (first_track d k Prime ≡ get_or (prime_numbers (band_of l k).primes) 0 0) × (prime_tracks d k ≡ get_or (prime_numbers (band_of l k).primes) 1 0)
   unfolding first_track prime_tracks entry_numbers
   tracks_back k h =
       (number_back k 0 (8 * k + 3) h (omega arith) (omega arith), number_back k 1 (8 * k + 5) h (omega arith) (omega arith), number_back k 2 (8 * k + 7) h (omega arith) (omega arith), number_back k 3 (8 * k + 9) h (omega arith) (omega arith))
@@ -130,12 +134,12 @@ module _ (l : Layout) (kept : valid l ≡ true) (eight : length l.bands ≡ 8) (
     abbrev x : Band
     x = band_of l k
 
-    whole : (x.maps % 32 ≡ 0) × (x.spares % 32 ≡ 0) × (x.first % 32 ≡ 0) × (x.homes % 32 ≡ 0)
+    whole : (x.maps % 32 ≡ 0) × (x.spares % 32 ≡ 0) × (first_home x % 32 ≡ 0) × (homes_of x % 32 ≡ 0)
     whole =
         let w = (and_parts (whole_tracks x) (ltb k l.count || unused x) (formed k)).0 in
-        let two = and_parts (eqb (x.maps % 32) 0 && eqb (x.spares % 32) 0) (eqb (x.first % 32) 0 && eqb (x.homes % 32) 0) w in
+        let two = and_parts (eqb (x.maps % 32) 0 && eqb (x.spares % 32) 0) (eqb (first_home x % 32) 0 && eqb (homes_of x % 32) 0) w in
         let a = and_parts (eqb (x.maps % 32) 0) (eqb (x.spares % 32) 0) two.0 in
-        let b = and_parts (eqb (x.first % 32) 0) (eqb (x.homes % 32) 0) two.1 in
+        let b = and_parts (eqb (first_home x % 32) 0) (eqb (homes_of x % 32) 0) two.1 in
         (eqb-true _ _ a.0, eqb-true _ _ a.1, eqb-true _ _ b.0, eqb-true _ _ b.1)
 
     maps_back : first_sector (first_track d k Map) ≡ x.maps
@@ -144,33 +148,34 @@ module _ (l : Layout) (kept : valid l ≡ true) (eight : length l.bands ≡ 8) (
     spares_back : first_sector (first_track d k Alternative) ≡ x.spares
     spares_back = let w = writable l kept eight k h in ap first_sector (tracks_back k h).1 ∙ first_back x.spares w.spares_low w.spares_high whole.1
 
-    same_band : (m s f n : ℕ) → m ≡ x.maps → s ≡ x.spares → f ≡ x.first → n ≡ x.homes → ◌≡◌ {A = Band} (record { maps = m; spares = s; first = f; homes = n }) x
-    same_band m s f n a b e g = same_parts m s f n x.maps x.spares x.first x.homes a b e g
+    same_band : (o : Option Extent) → o ≡ x.primes → ◌≡◌ {A = Band} (record { maps = first_sector (first_track d k Map); spares = first_sector (first_track d k Alternative); primes = o }) x
+    same_band o e = same_parts _ _ o x.maps x.spares x.primes maps_back spares_back e
 
     band_none : overflow x ≡ true → band_at d k ≡ x
     unfolding band_at overflow_entry
     band_none o =
         let t = tracks_back k h in
-        let over : overflow_entry d k ≡ true = and_from _ _ (eq-eqb _ _ (t.2 ∙ (numbers_none x o).0)) (eq-eqb _ _ (t.3 ∙ (numbers_none x o).1)) in
-        let no_homes : x.homes ≡ 0 = eqb-true _ _ o in
-        let no_first : x.first ≡ 0 = eqb-true _ _ (sym (cond-true (overflow x) _ _ o) ∙ (standing l kept eight k h).primes) in
-        same_band _ _ _ _ maps_back spares_back (cond-true (overflow_entry d k) _ _ over ∙ sym no_first) (cond-true (overflow_entry d k) _ _ over ∙ sym no_homes)
+        let none = none_there x.primes o in
+        let first : first_track d k Prime ≡ 65535 = t.2 ∙ ap (λ p. get_or (prime_numbers p) 0 0) none in
+        let tracks : prime_tracks d k ≡ 65535 = t.3 ∙ ap (λ p. get_or (prime_numbers p) 1 0) none in
+        let over : overflow_entry d k ≡ true = and_from _ _ (eq-eqb _ _ first) (eq-eqb _ _ tracks) in
+        same_band _ (cond-true (overflow_entry d k) _ _ over ∙ sym none)
 
     band_some : overflow x ≡ false → band_at d k ≡ x
     unfolding band_at overflow_entry
     band_some o =
         let t = tracks_back k h in
         let w = writable l kept eight k h in
-        let some : 1 ≤ x.homes = let ne = eqb-false x.homes 0 o in ⊎_elim (λ (p : 0 < x.homes). p) (λ (z : x.homes ≤ 0). absurd (ne (omega arith))) (cases_lt 0 x.homes) in
-        let low = w.prime_low some in
-        let high = w.prime_high some in
-        let first = t.2 ∙ (numbers_some x o).0 in
-        let tracks = t.3 ∙ (numbers_some x o).1 in
+        let some = some_there x.primes o in
+        let low = w.prime_low o in
+        let high = w.prime_high o in
+        let first : first_track d k Prime ≡ track_of (first_home x) = t.2 ∙ ap (λ p. get_or (prime_numbers p) 0 0) some in
+        let tracks : prime_tracks d k ≡ homes_of x / 32 = t.3 ∙ ap (λ p. get_or (prime_numbers p) 1 0) some in
         let far : first_track d k Prime ≡ 65535 → ⊥ = λ e. omega arith in
         let over : overflow_entry d k ≡ false = ap (λ b. b && eqb (prime_tracks d k) 65535) (ne_eqb (first_track d k Prime) 65535 far) in
         let whole_homes = whole.3 in
-        let homes : 32 * prime_tracks d k ≡ x.homes = omega arith in
-        same_band _ _ _ _ maps_back spares_back (cond-false (overflow_entry d k) _ _ over ∙ ap first_sector first ∙ first_back x.first low high whole.2) (cond-false (overflow_entry d k) _ _ over ∙ homes)
+        let homes : 32 * prime_tracks d k ≡ homes_of x = omega arith in
+        same_band _ (cond-false (overflow_entry d k) _ _ over ∙ same_extent _ _ _ _ (ap first_sector first ∙ first_back (first_home x) low high whole.2) homes ∙ sym some)
 
     band_back : band_at d k ≡ x
     band_back = ⊎_elim band_none band_some (cases_Bool (overflow x))
@@ -180,10 +185,9 @@ module _ (l : Layout) (kept : valid l ≡ true) (eight : length l.bands ≡ 8) (
       let f = (and_parts (whole_tracks (band_of l k)) (ltb k l.count || unused (band_of l k)) (formed k)).1 in
       let u : unused (band_of l k) ≡ true = ⊎_elim (λ t. absurd (both_ways _ (le-ltb _ _ h) t)) (λ t. t) (or_cases (ltb k l.count) (unused (band_of l k)) f) in
       let y = band_of l k in
-      let two = and_parts (eqb y.maps 0 && eqb y.spares 0) (eqb y.first 0 && eqb y.homes 0) u in
+      let two = and_parts (eqb y.maps 0 && eqb y.spares 0) (overflow y) u in
       let a = and_parts (eqb y.maps 0) (eqb y.spares 0) two.0 in
-      let b = and_parts (eqb y.first 0) (eqb y.homes 0) two.1 in
-      sym (same_parts y.maps y.spares y.first y.homes 0 0 0 0 (eqb-true _ _ a.0) (eqb-true _ _ a.1) (eqb-true _ _ b.0) (eqb-true _ _ b.1))
+      sym (same_parts y.maps y.spares y.primes 0 0 None (eqb-true _ _ a.0) (eqb-true _ _ a.1) (none_there y.primes two.1))
 
   count_back : band_count d ≡ l.count
   count_back = bytes 2 (omega arith) ∙ byte_count l 2 refl

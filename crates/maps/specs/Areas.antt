@@ -2,7 +2,7 @@
 use Rattle.std.specs.Prelude.{◌≡◌, ℕ, ◌+◌, ◌-◌, ◌*◌, ◌/◌, ◌<◌, ◌≤◌, cond, not, ◌&&◌, List, [], ◌∷◌, map, Some, None, Option, ◌==◌}
 use Rattle.std.specs.List.{filter_map, range_with_len}
 use mathlib.Core.List.{Memᴰ}
-use Rattle.maps.specs.Places.{band_of, bands_of, first_of, overflow, size_of}
+use Rattle.maps.specs.Places.{band_of, bands_of, first_home, first_of, overflow, size_of}
 use Rattle.maps.specs.declared.areas.Area.{Area}
 use Rattle.maps.specs.declared.bands.Band.{Band}
 use Rattle.maps.specs.declared.bands.Layout.{Layout}
@@ -22,7 +22,7 @@ unfoldable pub begun_in : ℕ → Band → ℕ → Option Area
 begun_in k x t =
     cond (x.maps == 32 * (t + 2)) (Some (area_from k x Map t))
     (cond (x.spares == 32 * (t + 2)) (Some (area_from k x Alternative t))
-    (cond (not (overflow x) && x.first == 32 * (t + 2)) (Some (area_from k x Prime t)) None))
+    (cond (not (overflow x) && first_home x == 32 * (t + 2)) (Some (area_from k x Prime t)) None))
 
 abbrev pub or_else : Option Area → Option Area → Option Area
 or_else (Some a) o = Some a

@@ -1,7 +1,8 @@
 -- The bytes of a layout sheet: the layout that they give, and those that a layout is written in.
-use Rattle.std.specs.Prelude.{ℕ, ◌+◌, ◌-◌, ◌*◌, ◌/◌, ◌%◌, ◌<◌, ◌≤◌, Bool, cond, ◌&&◌, List, [], ◌∷◌, map, ◌==◌, nat_le, nat_lt, slice_index}
-use Rattle.maps.specs.Places.{band_of, no_band, overflow}
+use Rattle.std.specs.Prelude.{◌≡◌, ℕ, ◌+◌, ◌-◌, ◌*◌, ◌/◌, ◌%◌, ◌<◌, ◌≤◌, Bool, false, cond, ◌&&◌, List, [], ◌∷◌, map, Some, None, Option, ◌==◌, nat_le, nat_lt, slice_index}
+use Rattle.maps.specs.Places.{band_of, first_home, homes_of, no_band, overflow}
 use Rattle.maps.specs.declared.bands.Band.{Band}
+use Rattle.maps.specs.declared.bands.Extent.{Extent}
 use Rattle.maps.specs.declared.bands.Layout.{Layout}
 use Rattle.maps.specs.declared.bands.Purpose.{Purpose}
 use Rattle.maps.specs.declared.bands.Purpose.TheVariants.{Map, Alternative, Prime}
@@ -40,14 +41,16 @@ overflow_entry d k = first_track d k Prime == 65535 && prime_tracks d k == 65535
 unfoldable pub first_sector : ℕ → ℕ
 first_sector t = cond (nat_le t 19999) (32 * (t + 2)) 640064
 
--- the band that entry k gives
+-- the prime area that entry k gives, and the band
+abbrev pub primes_at : List ℕ → ℕ → Extent
+primes_at d k = record { first = first_sector (first_track d k Prime); size = 32 * prime_tracks d k }
+
 unfoldable pub band_at : List ℕ → ℕ → Band
 band_at d k =
     record {
       maps = first_sector (first_track d k Map);
       spares = first_sector (first_track d k Alternative);
-      first = cond (overflow_entry d k) 0 (first_sector (first_track d k Prime));
-      homes = cond (overflow_entry d k) 0 (32 * prime_tracks d k);
+      primes = cond (overflow_entry d k) None (Some (primes_at d k));
     }
 
 -- place k of the eight: an entry's band if it is in use
@@ -63,13 +66,12 @@ abbrev pub track_of : ℕ → ℕ
 track_of s = s / 32 - 2
 
 -- the four numbers of a band's entry
+abbrev pub prime_numbers : Option Extent → List ℕ
+prime_numbers None = 65535 ∷ 65535 ∷ []
+prime_numbers (Some e) = track_of e.first ∷ e.size / 32 ∷ []
+
 unfoldable pub entry_numbers : Band → List ℕ
-entry_numbers x =
-    track_of x.maps
-    ∷ track_of x.spares
-    ∷ cond (overflow x) 65535 (track_of x.first)
-    ∷ cond (overflow x) 65535 (x.homes / 32)
-    ∷ []
+entry_numbers x = track_of x.maps ∷ track_of x.spares ∷ prime_numbers x.primes
 
 -- byte j of the eight bytes of a band
 unfoldable pub entry_byte : Band → ℕ → ℕ
@@ -92,6 +94,6 @@ pub record Writable (x : Band) : Type 0 where
   pub map_high : x.maps < 640064
   pub spares_low : 64 ≤ x.spares
   pub spares_high : x.spares < 640064
-  pub prime_low : 1 ≤ x.homes → 64 ≤ x.first
-  pub prime_high : 1 ≤ x.homes → x.first < 640064
-  pub homes_high : x.homes ≤ 640064
+  pub prime_low : overflow x ≡ false → 64 ≤ first_home x
+  pub prime_high : overflow x ≡ false → first_home x < 640064
+  pub homes_high : homes_of x ≤ 640064

@@ -23,19 +23,21 @@ fn begun_in(number: u8, band: Band, track: u32) -> Option<Area>
     if band.alternative_area().begins_on(track) {
         return Some(area_from(number, Purpose::Alternative, track, AREA_SECTORS));
     }
-    if !band.is_overflow() && band.prime_area().begins_on(track) {
-        return Some(area_from(number, Purpose::Prime, track, band.homes));
+    match band.primes {
+        Some(primes) if primes.begins_on(track) => {
+            Some(area_from(number, Purpose::Prime, track, primes.size))
+        }
+        _ => None,
     }
-    None
 }
 
 fn area_from(band: u8, purpose: Purpose, track: u32, sectors: u32) -> Area
-    requires { (32 * track < 2 ^ 32) × (1 ≤ sectors) }
+    requires { 32 * track < 2 ^ 32 }
     ensures { result ≡ area_of band purpose track sectors }
 {
     Area {
         first: track,
-        last: track + (sectors - 1) / SECTORS_PER_TRACK,
+        last: track + sectors.saturating_sub(1) / SECTORS_PER_TRACK,
         band,
         purpose,
     }

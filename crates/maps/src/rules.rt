@@ -1,23 +1,31 @@
 // The rules of a layout that concern its areas.
 ghost use Rattle.std.specs.Prelude.{◌≡◌, ◌+◌, ◌≤◌, length};
-ghost use Rattle.maps.specs.Places.{apart_from_all, area_apart, band_stands, bands_apart, bands_stand, block_count, rises_to, valid};
+ghost use Rattle.maps.specs.Places.{apart_from_all, area_apart, band_stands, bands_apart, bands_stand, block_count, primes_stand, rises_to, valid};
 
 use crate::bands::{Band, Extent, Layout, MOST_BANDS, SECTORS_PER_TRACK, TRACKS_BEFORE_END};
+
+// Whether the prime area of a band has a sector, and lies within the tracks and apart from the other areas.
+fn primes_stand(end: u32, band: Band, primes: Extent) -> bool
+    ensures { result ≡ primes_stand end band primes }
+{
+    1 <= primes.size
+        && primes.is_inside(end)
+        && band.map_area().is_apart(primes)
+        && band.alternative_area().is_apart(primes)
+}
 
 // Whether the areas of a band lie within the tracks, which end before the sector `end`, and apart.
 pub(crate) fn band_stands(end: u32, band: Band) -> bool
     ensures { result ≡ band_stands end band }
 {
-    let primes = band.prime_area();
-    let primes_stand = if band.is_overflow() {
-        band.first == 0
-    } else {
-        primes.is_inside(end)
-    };
     let map = band.map_area();
     let spares = band.alternative_area();
-    (map.is_inside(end) & spares.is_inside(end))
-        & (primes_stand & (map.is_apart(spares) & (map.is_apart(primes) & spares.is_apart(primes))))
+    map.is_inside(end)
+        && spares.is_inside(end)
+        && map.is_apart(spares)
+        && band
+            .primes
+            .is_none_or(|primes| primes_stand(end, band, primes))
 }
 
 // Whether an area has no sector of the band.
@@ -25,14 +33,18 @@ fn area_apart(area: Extent, band: Band) -> bool
     ensures { result ≡ area_apart area.first area.size band }
 {
     area.is_apart(band.map_area())
-        & (area.is_apart(band.alternative_area()) & area.is_apart(band.prime_area()))
+        && area.is_apart(band.alternative_area())
+        && band.primes.is_none_or(|primes| area.is_apart(primes))
 }
 
 // Whether the prime area of a later band begins behind that of a band before, if both have one.
 fn rises_to(band: Band, later: Band) -> bool
     ensures { result ≡ rises_to band later }
 {
-    band.is_overflow() | (later.is_overflow() | (band.first < later.first))
+    match (band.primes, later.primes) {
+        (Some(primes), Some(behind)) => primes.first < behind.first,
+        _ => true,
+    }
 }
 
 // Whether a band and a later one have no sector in common, and rise.
@@ -40,8 +52,9 @@ fn bands_apart(band: Band, later: Band) -> bool
     ensures { result ≡ bands_apart band later }
 {
     rises_to(band, later)
-        & (area_apart(band.map_area(), later)
-            & (area_apart(band.alternative_area(), later) & area_apart(band.prime_area(), later)))
+        && area_apart(band.map_area(), later)
+        && area_apart(band.alternative_area(), later)
+        && band.primes.is_none_or(|primes| area_apart(primes, later))
 }
 
 // Whether a band is apart from all later ones.

@@ -3,7 +3,7 @@ ghost use Rattle.std.specs.Prelude.{◌≡◌, ◌+◌, ◌*◌, ◌<◌, ◌≤
 ghost use Rattle.maps.specs.Places.{valid};
 ghost use Rattle.maps.specs.Sheets.{Writable, band_at, band_or_none, entry_byte, entry_numbers, first_sector, identified, layout_in, sheet_byte, track_of, two_at};
 
-use crate::bands::{Band, Layout, MOST_BANDS, NO_BAND, SECTORS_PER_TRACK};
+use crate::bands::{Band, Extent, Layout, MOST_BANDS, NO_BAND, SECTORS_PER_TRACK};
 use crate::maps::Maps;
 use format::{Address, address_of, number_of};
 use medium::MOST_SECTORS;
@@ -63,19 +63,21 @@ fn band_at(sheet: &Sheet, k: usize) -> Band
     let spares = first_sector(two_at(sheet, at + 2));
     let prime_track = two_at(sheet, at + 4);
     let prime_tracks = two_at(sheet, at + 6);
-    if (prime_track == NO_PRIME) & (prime_tracks == NO_PRIME) {
+    if prime_track == NO_PRIME && prime_tracks == NO_PRIME {
         return Band {
             maps,
             spares,
-            first: 0,
-            homes: 0,
+            primes: None,
         };
     }
+    let primes = Extent {
+        first: first_sector(prime_track),
+        size: SECTORS_PER_TRACK * u32::from(prime_tracks),
+    };
     Band {
         maps,
         spares,
-        first: first_sector(prime_track),
-        homes: SECTORS_PER_TRACK * u32::from(prime_tracks),
+        primes: Some(primes),
     }
 }
 
@@ -118,17 +120,14 @@ fn entry_numbers(band: Band) -> [u16; 4]
     requires { Writable band }
     ensures { result ≡ entry_numbers band }
 {
-    let maps = track_of(band.maps);
-    let spares = track_of(band.spares);
-    if band.is_overflow() {
-        return [maps, spares, NO_PRIME, NO_PRIME];
-    }
-    [
-        maps,
-        spares,
-        track_of(band.first),
-        (band.homes / SECTORS_PER_TRACK) as u16,
-    ]
+    let (first, tracks) = match band.primes {
+        Some(primes) => (
+            track_of(primes.first),
+            (primes.size / SECTORS_PER_TRACK) as u16,
+        ),
+        None => (NO_PRIME, NO_PRIME),
+    };
+    [track_of(band.maps), track_of(band.spares), first, tracks]
 }
 
 // The byte `j` of the eight of a band's entry: of each number the most significant byte first.

@@ -23,10 +23,13 @@ impl Maps {
     {
         let mut rest = block;
         for band in &self.layout.bands[..self.layout.count as usize] {
-            if rest < band.homes {
-                return band.home_at(rest);
+            let Some(primes) = band.primes else {
+                continue;
+            };
+            if rest < primes.size {
+                return primes.sector_at(rest);
             }
-            rest -= band.homes;
+            rest -= primes.size;
         }
         unreachable()
     }

@@ -1,6 +1,6 @@
-use Rattle.std.proofs.Common.{◌≡◌, ℕ, ◌+◌, ◌*◌, true, false, ◌&&◌, eqb, List, refl, ap, ◌∙◌, arith}
-use Rattle.std.proofs.lemmas.Bool.{cond-true, cond-false}
-use Rattle.maps.specs.Sheets.{band_at, first_sector, first_track, overflow_entry, prime_tracks, two_at}
+use Rattle.std.proofs.Common.{◌≡◌, ℕ, ◌+◌, ◌*◌, true, false, eqb, List, Some, None, sym, refl, ap, ◌∙◌, ⊎_elim, arith}
+use Rattle.std.proofs.lemmas.Bool.{and_from, and_left, and_right, cond-true, cond-false, eq-eqb, ne_eqb}
+use Rattle.maps.specs.Sheets.{band_at, first_sector, first_track, overflow_entry, prime_tracks, primes_at, two_at}
 use Rattle.maps.specs.declared.bands.Band.{Band}
 use Rattle.maps.specs.declared.bands.Purpose.TheVariants.{Map, Alternative, Prime}
 use Rattle.maps.proofs.sheet.band_at.Goals as goal
@@ -15,28 +15,36 @@ placed d k =
     (refl, ap (two_at d) a, ap (two_at d) b, ap (two_at d) e)
 
 -- the band of an entry whose four numbers were read
-band_over : (d : List ℕ) (k m s p n : ℕ) → m ≡ first_sector (first_track d k Map) → s ≡ first_sector (first_track d k Alternative) → p ≡ first_track d k Prime → n ≡ prime_tracks d k → (eqb p 65535 && eqb n 65535) ≡ true → ◌≡◌ {A = Band} (record { maps = m; spares = s; first = 0; homes = 0 }) (band_at d k)
-unfolding band_at overflow_entry
-band_over d k m s p n em es ep en t =
-    let over : overflow_entry d k ≡ true = cc in
-    let a = cond-true (overflow_entry d k) 0 (first_sector (first_track d k Prime)) over in
-    let b = cond-true (overflow_entry d k) 0 (32 * prime_tracks d k) over in
+band_over : (d : List ℕ) (k m s : ℕ) → m ≡ first_sector (first_track d k Map) → s ≡ first_sector (first_track d k Alternative) → overflow_entry d k ≡ true → ◌≡◌ {A = Band} (record { maps = m; spares = s; primes = None }) (band_at d k)
+unfolding band_at
+band_over d k m s em es over =
+    let none = cond-true (overflow_entry d k) None (Some (primes_at d k)) over in
     cc
 
-band_prime : (d : List ℕ) (k m s p n f : ℕ) → m ≡ first_sector (first_track d k Map) → s ≡ first_sector (first_track d k Alternative) → p ≡ first_track d k Prime → n ≡ prime_tracks d k → (eqb p 65535 && eqb n 65535) ≡ false → f ≡ first_sector p → ◌≡◌ {A = Band} (record { maps = m; spares = s; first = f; homes = 32 * n }) (band_at d k)
-unfolding band_at overflow_entry
-band_prime d k m s p n f em es ep en t ef =
-    let over : overflow_entry d k ≡ false = cc in
-    let a = cond-false (overflow_entry d k) 0 (first_sector (first_track d k Prime)) over in
-    let b = cond-false (overflow_entry d k) 0 (32 * prime_tracks d k) over in
+band_prime : (d : List ℕ) (k m s f n : ℕ) → m ≡ first_sector (first_track d k Map) → s ≡ first_sector (first_track d k Alternative) → f ≡ first_sector (first_track d k Prime) → n ≡ prime_tracks d k → overflow_entry d k ≡ false → ◌≡◌ {A = Band} (record { maps = m; spares = s; primes = Some (record { first = f; size = 32 * n }) }) (band_at d k)
+unfolding band_at
+band_prime d k m s f n em es ef en over =
+    let some = cond-false (overflow_entry d k) None (Some (primes_at d k)) over in
     cc
 
-pub returns-then-prime_track-prime_tracks : goal.returns-then-prime_track-prime_tracks
-returns-then-prime_track-prime_tracks c =
+pub returns-then-prime_tracks : goal.returns-then-prime_tracks
+unfolding overflow_entry
+returns-then-prime_tracks c =
     let q = placed c.args.sheet.now c.args.k in
-    band_over c.args.sheet.now c.args.k _ _ _ _ (c.first_sector-maps.ensures ∙ ap first_sector (c.two_at.ensures ∙ q.0)) (c.first_sector-spares.ensures ∙ ap first_sector (c.two_at-2.ensures ∙ q.1)) (c.two_at-prime_track.ensures ∙ q.2) (c.two_at-prime_tracks.ensures ∙ q.3) c.if-prime_track-prime_tracks.true
+    let over = and_from _ _ (eq-eqb _ _ (sym (c.two_at-prime_track.ensures ∙ q.2) ∙ c.if-prime_track.true)) (eq-eqb _ _ (sym (c.two_at-prime_tracks.ensures ∙ q.3) ∙ c.if-prime_tracks.true)) in
+    band_over c.args.sheet.now c.args.k _ _ (c.first_sector-maps.ensures ∙ ap first_sector (c.two_at.ensures ∙ q.0)) (c.first_sector-spares.ensures ∙ ap first_sector (c.two_at-2.ensures ∙ q.1)) over
 
 pub returns : goal.returns
+unfolding overflow_entry
 returns c =
+    let d = c.args.sheet.now in
+    let k = c.args.k in
     let q = placed c.args.sheet.now c.args.k in
-    band_prime c.args.sheet.now c.args.k _ _ c.two_at-prime_track.result _ _ (c.first_sector-maps.ensures ∙ ap first_sector (c.two_at.ensures ∙ q.0)) (c.first_sector-spares.ensures ∙ ap first_sector (c.two_at-2.ensures ∙ q.1)) (c.two_at-prime_track.ensures ∙ q.2) (c.from.ensures ∙ c.two_at-prime_tracks.ensures ∙ q.3) (ap (λ z. eqb c.two_at-prime_track.result 65535 && eqb z 65535) c.from.ensures ∙ c.if-prime_track-prime_tracks.false) c.first_sector.ensures
+    let track = c.two_at-prime_track.ensures ∙ q.2 in
+    let tracks = c.two_at-prime_tracks.ensures ∙ q.3 in
+    let some : overflow_entry d k ≡ false =
+    ⊎_elim
+    (λ u. and_right (eqb (first_track d k Prime) 65535) (eqb (prime_tracks d k) 65535) (ne_eqb _ _ (λ e. u.1 (tracks ∙ e))))
+    (λ u. and_left (eqb (first_track d k Prime) 65535) (eqb (prime_tracks d k) 65535) (ne_eqb _ _ (λ e. u (track ∙ e))))
+    c.else-prime_track.either in
+    band_prime c.args.sheet.now c.args.k _ _ _ _ (c.first_sector-maps.ensures ∙ ap first_sector (c.two_at.ensures ∙ q.0)) (c.first_sector-spares.ensures ∙ ap first_sector (c.two_at-2.ensures ∙ q.1)) (c.first_sector.ensures ∙ ap first_sector track) (c.from.ensures ∙ tracks) some

@@ -1,21 +1,20 @@
-use Rattle.std.proofs.Common.{◌/◌, sym}
-use Rattle.std.proofs.lemmas.Bool.{cond-true, cond-false}
-use Rattle.maps.specs.Places.{overflow}
-use Rattle.maps.specs.Sheets.{entry_numbers, track_of}
+use Rattle.std.proofs.Common.{◌≡◌, ℕ, ◌/◌, List, [], ◌∷◌, sym, ap, ◌∙◌}
+use Rattle.maps.specs.Sheets.{entry_numbers, prime_numbers, track_of}
+use Rattle.maps.specs.declared.bands.Band.{Band}
 use Rattle.maps.proofs.sheet.entry_numbers.Goals as goal
+use Rattle.maps.proofs.sheet.entry_numbers.Goals.{in-Some, in-None}
 
-pub returns-then-is_overflow : goal.returns-then-is_overflow
+abbrev both : ℕ × ℕ → List ℕ
+both p = p.0 ∷ p.1 ∷ []
+
+numbers_are : (x : Band) (m s : ℕ) (p : ℕ × ℕ) → m ≡ track_of x.maps → s ≡ track_of x.spares → both p ≡ prime_numbers x.primes → m ∷ s ∷ both p ≡ entry_numbers x
 unfolding entry_numbers
-returns-then-is_overflow c =
-    let x = c.args.band in
-    let first = cond-true (overflow x) 65535 (track_of x.first) (sym c.if-is_overflow.ensures) in
-    let tracks = cond-true (overflow x) 65535 (x.homes / 32) (sym c.if-is_overflow.ensures) in
-    cc
+numbers_are x m s p e f g = cc
 
 pub returns : goal.returns
-unfolding entry_numbers
 returns c =
-    let x = c.args.band in
-    let first = cond-false (overflow x) 65535 (track_of x.first) (sym c.if-is_overflow.ensures) in
-    let tracks = cond-false (overflow x) 65535 (x.homes / 32) (sym c.if-is_overflow.ensures) in
-    cc
+    let primes : both c.match-band.first ≡ prime_numbers c.args.band.primes = elim c.match-band.branch [
+      | in-Some w ↦ ap both w.first-is ∙ ap (λ t. t ∷ w.in-Some.primes.size / 32 ∷ []) w.track_of.ensures ∙ sym (ap prime_numbers w.in-Some.is)
+      | in-None w ↦ ap both w.first-is ∙ sym (ap prime_numbers w.in-None.is)
+    ] in
+    numbers_are c.args.band _ _ c.match-band.first c.track_of-2.ensures c.track_of-3.ensures primes
