@@ -3,8 +3,9 @@ use Rattle.std.proofs.Common.{◌≡◌, ℕ, ◌+◌, ◌*◌, ◌%◌, ◌<◌
 use Rattle.format.specs.Laws.{format_fault}
 use Rattle.maps.specs.Places.{band_formed, bands_of, first_in, no_band, size_in, valid, whole_tracks}
 use Rattle.maps.specs.Reading.{fits_format, last_track, reading_layout}
-use Rattle.maps.specs.Sheets.{band_at, band_count, band_or_none, first_sector, identified, layout_in, overflow_entry, primes_at}
+use Rattle.maps.specs.Sheets.{band_at, band_count, band_or_none, first_sector, first_track, identified, layout_in, overflow_entry, primes_at}
 use Rattle.maps.specs.declared.bands.Layout.{Layout}
+use Rattle.maps.specs.declared.bands.Purpose.TheVariants.{Map, Alternative}
 use Rattle.medium.specs.declared.faults.Fault.{Fault}
 use Rattle.medium.specs.declared.faults.Refusal.TheVariants.{WrongSectorCount, BrokenLayout}
 use Rattle.std.proofs.lemmas.List.FromFn.{get_or-map-range_with_len, length-map-range_with_len, take-map-range_with_len}
@@ -66,16 +67,14 @@ pub used_many : (n : ℕ) (d : List ℕ) → band_count d ≤ 8 → length (band
 unfolding layout_in
 used_many n d few = ap length (take-map-range_with_len (band_or_none d) 0 8 (band_count d) few) ∙ length-map-range_with_len (band_or_none d) 0 (band_count d)
 
-whole_first : (t : ℕ) → first_sector t % 32 ≡ 0
-unfolding first_sector
-whole_first t = cond_both (leb t 19999) (32 * (t + 2)) 640064 (λ s. s % 32 ≡ 0) (λ _. omega arith) (λ _. refl)
-
 whole_at : (d : List ℕ) (k : ℕ) → whole_tracks (band_at d k) ≡ true
 unfolding band_at
 whole_at d k =
-    let f = cond_both (overflow_entry d k) None (Some (primes_at d k)) (λ o. first_in o % 32 ≡ 0) (λ _. refl) (λ _. whole_first _) in
+    let m : first_sector (first_track d k Map) % 32 ≡ 0 = omega arith in
+    let s : first_sector (first_track d k Alternative) % 32 ≡ 0 = omega arith in
+    let f = cond_both (overflow_entry d k) None (Some (primes_at d k)) (λ o. first_in o % 32 ≡ 0) (λ _. refl) (λ _. omega arith) in
     let h = cond_both (overflow_entry d k) None (Some (primes_at d k)) (λ o. size_in o % 32 ≡ 0) (λ _. refl) (λ _. omega arith) in
-    and_from _ _ (and_from _ _ (eq-eqb _ _ (whole_first _)) (eq-eqb _ _ (whole_first _))) (and_from _ _ (eq-eqb _ _ f) (eq-eqb _ _ h))
+    and_from _ _ (and_from _ _ (eq-eqb _ _ m) (eq-eqb _ _ s)) (and_from _ _ (eq-eqb _ _ f) (eq-eqb _ _ h))
 
 formed_or_none : (d : List ℕ) (k : ℕ) → band_formed (band_count d) k (band_or_none d k) ≡ true
 unfolding band_or_none

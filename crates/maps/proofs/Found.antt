@@ -118,48 +118,52 @@ module _ (end : ℕ) where
       let h : homes_of x ≤ end = homes_end (x ∷ xs) t 0 (omega arith) in
       omega arith
 
+  -- a sector of a prime area is one of a medium
+  pub finding_fits : (bs : List Band) → bands_stand end bs ≡ true → end ≤ 640064 → (i rest : ℕ) → i < length bs → rest < homes_of (get_or bs i no_band) → first_home (get_or bs i no_band) + rest < 640064
+  finding_fits bs t small i rest more h =
+      let high = (primes_inside end (get_or bs i no_band) (stands end (get_or bs i no_band) (each_stands end bs t i more)) (omega arith)).1 in
+      omega arith
+
 -- the loop that finds the home of block b: at band i, it is block `rest` of the bands that are left
-pub record Finding (l : Layout) (b i rest : ℕ) : Type 0 where
-  pub same : home_in (drop i (bands_of l)) rest ≡ home_in (bands_of l) b
-  pub less : rest < block_count (drop i (bands_of l))
+pub record Finding (bs : List Band) (b i rest : ℕ) : Type 0 where
+  pub same : home_in (drop i bs) rest ≡ home_in bs b
+  pub less : rest < block_count (drop i bs)
 
-pub finding_first : (l : Layout) (b : ℕ) → b < blocks l → Finding l b 0 b
-unfolding blocks
-finding_first l b h = record { same = refl; less = h }
-
-module _ (l : Layout) (b i rest : ℕ) (g : Finding l b i rest) where
-  pub finding_last : length (bands_of l) ≤ i → ⊥
+module _ (bs : List Band) (b i rest : ℕ) (g : Finding bs b i rest) where
+  pub finding_last : length bs ≤ i → ⊥
   finding_last d =
-      let none : block_count (drop i (bands_of l)) ≡ 0 = at_drop_all block_count (bands_of l) i d in
+      let none : block_count (drop i bs) ≡ 0 = at_drop_all block_count bs i d in
       let k = g.less in
       omega arith
 
-  module _ (more : i < length (bands_of l)) where
+  module _ (more : i < length bs) where
     abbrev here : Band
-    here = get_or (bands_of l) i no_band
+    here = get_or bs i no_band
 
-    split : drop i (bands_of l) ≡ here ∷ drop (i + 1) (bands_of l)
-    split = drop_more (bands_of l) i no_band more
+    split : drop i bs ≡ here ∷ drop (i + 1) bs
+    split = drop_more bs i no_band more
 
-    pub finding_here : rest < homes_of here → first_home here + rest ≡ home l b
-    unfolding home
-    finding_here h = sym (home_here here (drop (i + 1) (bands_of l)) rest h) ∙ sym (ap (λ k. home_in k rest) split) ∙ g.same
+    pub finding_here : rest < homes_of here → first_home here + rest ≡ home_in bs b
+    finding_here h = sym (home_here here (drop (i + 1) bs) rest h) ∙ sym (ap (λ k. home_in k rest) split) ∙ g.same
 
-    pub finding_next : homes_of here ≤ rest → Finding l b (i + 1) (rest - homes_of here)
+    pub finding_next : homes_of here ≤ rest → Finding bs b (i + 1) (rest - homes_of here)
     finding_next h =
-        let all : rest < homes_of here + block_count (drop (i + 1) (bands_of l)) = subst (λ k. rest < block_count k) split g.less in
-        record { same = sym (home_later here (drop (i + 1) (bands_of l)) rest h) ∙ sym (ap (λ k. home_in k rest) split) ∙ g.same; less = omega arith }
+        let all : rest < homes_of here + block_count (drop (i + 1) bs) = subst (λ k. rest < block_count k) split g.less in
+        record { same = sym (home_later here (drop (i + 1) bs) rest h) ∙ sym (ap (λ k. home_in k rest) split) ∙ g.same; less = omega arith }
 
 pub last_low : (l : Layout) → valid l ≡ true → 8 ≤ l.last
 unfolding valid
 last_low l kept = leb-true _ _ (and_parts (leb 8 l.last) (leb l.last 19999) (and_parts (leb 8 l.last && leb l.last 19999) _ kept).0).0
 
-module _ (l : Layout) (kept : valid l ≡ true) (eight : length l.bands ≡ 8) where
+-- place k of the bands that are in use is place k of the eight
+pub band_found : (l : Layout) (bs : List Band) (k : ℕ) (x : Band) → bs ≡ bands_of l → k < l.count → x ≡ get_or bs k no_band → x ≡ band_of l k
+band_found l bs k x e h f = f ∙ ap (λ ys. get_or ys k no_band) e ∙ get_or-take l.count l.bands k no_band h
+
+module _ (l : Layout) (kept : valid l ≡ true) where
   -- what a valid layout keeps
   pub record Laid : Type 0 where
     pub small : l.last ≤ 19999
     pub few : l.count ≤ 8
-    pub long : length (bands_of l) ≡ l.count
     pub stand : bands_stand (sectors_for l.last) (bands_of l) ≡ true
 
   pub laid : Laid
@@ -170,19 +174,13 @@ module _ (l : Layout) (kept : valid l ≡ true) (eight : length l.bands ≡ 8) w
       let b = and_parts (leb 1 l.count && leb l.count 8) _ a.1 in
       let c = and_parts (leb 1 l.count) _ b.0 in
       let e = and_parts (leb 1 (block_count (bands_of l))) _ b.1 in
-      let few : l.count ≤ 8 = leb-true _ _ c.1 in
-      record { small = leb-true _ _ t.1; few = few; long = length-take-le l.count l.bands (omega arith); stand = e.1 }
+      record { small = leb-true _ _ t.1; few = leb-true _ _ c.1; stand = e.1 }
 
-  pub blocks_few : block_count (bands_of l) ≤ 5120512
-  blocks_few =
+  pub blocks_few : length (bands_of l) ≤ 8 → block_count (bands_of l) ≤ 5120512
+  blocks_few f =
       let s = laid.small in
-      let f = laid.few in
-      let g = laid.long in
       let r = homes_few (sectors_for l.last) (bands_of l) laid.stand (omega arith) in
       omega arith
-
-  used : (k : ℕ) → k < l.count → get_or (bands_of l) k no_band ≡ band_of l k
-  used k h = get_or-take l.count l.bands k no_band h
 
   home_inside : (b : ℕ) → b < blocks l → (64 ≤ home l b) × (home l b < sectors_for l.last)
   unfolding blocks home
@@ -201,25 +199,25 @@ module _ (l : Layout) (kept : valid l ≡ true) (eight : length l.bands ≡ 8) w
   unfolding blocks home
   homes_rise b c h m = rises (sectors_for l.last) (bands_of l) laid.stand b c h m
 
-  pub homes_placed : HomesPlaced l
-  unfolding blocks home
-  homes_placed =
-      record {
-        low = λ b h. (home_inside b h).0;
-        on_medium = λ b h. (home_inside b h).1;
-        rising = homes_rise;
-        two_homes = λ b c h m e.
-            ⊎_elim (λ (s : b ≡ c). s) (⊎_elim (λ (u : b < c). absurd (let r = homes_rise b c m u in omega arith)) (λ (u : c < b). absurd (let r = homes_rise c b h u in omega arith))) (cases_order b c);
-        only_prime = λ b k a h m p.
-            let o = own (bands_of l) b h in
-            let g = laid.long in
-            (one_place (sectors_for l.last) (bands_of l) laid.stand k o.0 a Prime (home_in (bands_of l) b) (omega arith) o.1 (subst (λ x. InArea x a (home_in (bands_of l) b)) (sym (used k m)) p) o.2).1;
-        every_prime = λ k i h p. let g = laid.long in onto (bands_of l) k i (omega arith) (subst (λ x. InArea x Prime i) (sym (used k h)) p);
-      }
+  module _ (eight : length l.bands ≡ 8) where
+    pub long : length (bands_of l) ≡ l.count
+    long = let few = laid.few in length-take-le l.count l.bands (omega arith)
 
-  pub finding_fits : (i rest : ℕ) → i < length (bands_of l) → rest < homes_of (get_or (bands_of l) i no_band) → first_home (get_or (bands_of l) i no_band) + rest < 640064
-  finding_fits i rest more h =
-      let small = laid.small in
-      let s = stands (sectors_for l.last) (get_or (bands_of l) i no_band) (each_stands (sectors_for l.last) (bands_of l) laid.stand i more) in
-      let high = (primes_inside (sectors_for l.last) (get_or (bands_of l) i no_band) s (omega arith)).1 in
-      omega arith
+    used : (k : ℕ) → k < l.count → get_or (bands_of l) k no_band ≡ band_of l k
+    used k h = get_or-take l.count l.bands k no_band h
+
+    pub homes_placed : HomesPlaced l
+    unfolding blocks home
+    homes_placed =
+        let g = long in
+        record {
+          low = λ b h. (home_inside b h).0;
+          on_medium = λ b h. (home_inside b h).1;
+          rising = homes_rise;
+          two_homes = λ b c h m e.
+              ⊎_elim (λ (s : b ≡ c). s) (⊎_elim (λ (u : b < c). absurd (let r = homes_rise b c m u in omega arith)) (λ (u : c < b). absurd (let r = homes_rise c b h u in omega arith))) (cases_order b c);
+          only_prime = λ b k a h m p.
+              let o = own (bands_of l) b h in
+              (one_place (sectors_for l.last) (bands_of l) laid.stand k o.0 a Prime (home_in (bands_of l) b) (omega arith) o.1 (subst (λ x. InArea x a (home_in (bands_of l) b)) (sym (used k m)) p) o.2).1;
+          every_prime = λ k i h p. onto (bands_of l) k i (omega arith) (subst (λ x. InArea x Prime i) (sym (used k h)) p);
+        }

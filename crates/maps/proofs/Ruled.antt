@@ -7,21 +7,7 @@ use Rattle.maps.specs.Rules.{HasPrime, LayoutRules, LiesIn, tracks_of}
 use Rattle.maps.specs.Sheets.{band_at, band_count, first_sector, first_track, identified, layout_in, overflow_entry, prime_tracks, primes_at}
 use Rattle.maps.specs.declared.bands.Purpose.{Purpose}
 use Rattle.maps.specs.declared.bands.Purpose.TheVariants.{Map, Alternative, Prime}
-use Rattle.std.proofs.lemmas.Bool.{and_from, and_parts, both_ways, cases_Bool, cases_lt, cases_order, cond_both, cond-false, cond-true, eq-eqb, eqb-true, le-leb, leb-true, lt-ltb, ltb-true, or_cases, or_left, or_right}
-
--- the first sector of a track that a medium may have, and of one that it may not
-first_near : (t : ℕ) → t ≤ 19999 → first_sector t ≡ 32 * (t + 2)
-unfolding first_sector
-first_near t h = cond-true (leb t 19999) _ _ (le-leb _ _ h)
-
-first_low : (t s : ℕ) → first_sector t + s ≤ 640064 → 1 ≤ s → t ≤ 19999
-unfolding first_sector
-first_low t s h k =
-    ⊎_elim (λ u. leb-true _ _ u) (λ u. absurd (let e : first_sector t ≡ 640064 = cond-false (leb t 19999) _ _ u in omega arith)) (cases_Bool (leb t 19999))
-
-first_some : (t : ℕ) → 64 ≤ first_sector t
-unfolding first_sector
-first_some t = cond_both (leb t 19999) (32 * (t + 2)) 640064 (λ s. 64 ≤ s) (λ _. omega arith) (λ _. omega arith)
+use Rattle.std.proofs.lemmas.Bool.{and_from, and_parts, both_ways, cases_Bool, cases_lt, cases_order, cond-false, cond-true, eq-eqb, eqb-true, le-leb, leb-true, lt-ltb, ltb-true, or_cases, or_left, or_right}
 
 -- the tests of two areas and of one, from what they say
 before : (a m c n : ℕ) → a + m ≤ c → apart a m c n ≡ true
@@ -80,15 +66,11 @@ module _ (n : ℕ) (d : List ℕ) (small : n ≤ 19999) where
   stood k s Map h =
       let hi = s.map_high in
       let e = map_first k in
-      let near : first_track d k Map ≤ 19999 = first_low (first_track d k Map) 128 (omega arith) (omega arith) in
-      let f = first_near (first_track d k Map) near in
-      record { first = e ∙ f; size = refl; end = omega arith }
+      record { first = e; size = refl; end = omega arith }
   stood k s Alternative h =
       let hi = s.spares_high in
       let e = spares_first k in
-      let near : first_track d k Alternative ≤ 19999 = first_low (first_track d k Alternative) 128 (omega arith) (omega arith) in
-      let f = first_near (first_track d k Alternative) near in
-      record { first = e ∙ f; size = refl; end = omega arith }
+      record { first = e; size = refl; end = omega arith }
   stood k s Prime h =
       ⊎_elim
       (λ o. absurd (let z : tracks_of d k Prime ≡ 0 = cond-true (overflow_entry d k) 0 (prime_tracks d k) o in omega arith))
@@ -98,9 +80,7 @@ module _ (n : ℕ) (d : List ℕ) (small : n ≤ 19999) where
       let e = prime_first k o in
       let p = primes_inside (sectors_for n) (band_at d k) s (omega arith) in
       let hi = p.1 in
-      let near : first_track d k Prime ≤ 19999 = first_low (first_track d k Prime) (32 * prime_tracks d k) (omega arith) (omega arith) in
-      let f = first_near (first_track d k Prime) near in
-      record { first = e ∙ f; size = hs ∙ ap (λ t. 32 * t) (sym tr); end = omega arith })
+      record { first = e; size = hs ∙ ap (λ t. 32 * t) (sym tr); end = omega arith })
       (cases_Bool (overflow_entry d k))
 
   -- a track of an area is a sector of it
@@ -206,15 +186,15 @@ module _ (n : ℕ) (d : List ℕ) (small : n ≤ 19999) where
     pub kept_area : (k : ℕ) (a : Purpose) → k < band_count d → 1 ≤ tracks_of d k a → AreaAt k a
     kept_area k Map h some =
         let e = last_lies k Map h some in
-        record { first = map_first k ∙ first_near (first_track d k Map) (omega arith); size = refl; end = e }
+        record { first = map_first k; size = refl; end = e }
     kept_area k Alternative h some =
         let e = last_lies k Alternative h some in
-        record { first = spares_first k ∙ first_near (first_track d k Alternative) (omega arith); size = refl; end = e }
+        record { first = spares_first k; size = refl; end = e }
     kept_area k Prime h some =
         let e = last_lies k Prime h some in
         ⊎_elim
         (λ o. absurd (let z : tracks_of d k Prime ≡ 0 = cond-true (overflow_entry d k) 0 (prime_tracks d k) o in omega arith))
-        (λ o. record { first = prime_first k o ∙ first_near (first_track d k Prime) (omega arith); size = prime_homes k o ∙ ap (λ t. 32 * t) (sym (prime_count k o)); end = e })
+        (λ o. record { first = prime_first k o; size = prime_homes k o ∙ ap (λ t. 32 * t) (sym (prime_count k o)); end = e })
         (cases_Bool (overflow_entry d k))
 
     -- an area without tracks is the prime area of an overflow band

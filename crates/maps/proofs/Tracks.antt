@@ -2,7 +2,7 @@
 use Rattle.std.proofs.Common.{◌≡◌, ℕ, zero, suc, ◌+◌, ◌-◌, ◌*◌, ◌/◌, ◌%◌, ◌<◌, ◌≤◌, true, false, not, ◌&&◌, ◌||◌, eqb, ltb, List, [], ◌∷◌, ◌++◌, map, length, get_or, Some, None, Option, sym, refl, ap, ◌∙◌, subst, ⊎_elim, arith}
 use mathlib.Core.List.Memᴰ
 use mathlib.Core.List.{Memᴰ}
-use Rattle.maps.proofs.Found.{laid, one_place, some_area}
+use Rattle.maps.proofs.Found.{laid, long, one_place, some_area}
 use Rattle.maps.proofs.Listed.{areas_before, as_list, before_listed, begun_alternative, begun_map, begun_none, begun_prime}
 use Rattle.maps.proofs.Standing.{Stands, each_stands, primes_inside, stands}
 use Rattle.maps.specs.Areas.{AreaTold, AreasListed, all_areas, area_from, begun, begun_in, or_else}
@@ -149,7 +149,7 @@ module _ (l : Layout) (kept : valid l ≡ true) (eight : length l.bands ≡ 8) (
   used k h = get_or-take l.count l.bands k no_band h
 
   homed : Homed (bands_of l)
-  homed j h = (stands (sectors_for l.last) (get_or (bands_of l) j no_band) (each_stands (sectors_for l.last) (bands_of l) (laid l kept eight).stand j h)).primes.some_home
+  homed j h = (stands (sectors_for l.last) (get_or (bands_of l) j no_band) (each_stands (sectors_for l.last) (bands_of l) (laid l kept).stand j h)).primes.some_home
 
   rise : (t : ℕ) → Rising (firsts (areas_before l t)) × ((k : ℕ) → k < length (firsts (areas_before l t)) → get_or (firsts (areas_before l t)) k 0 < t)
   rise zero = ((λ k h. absurd (omega arith)), (λ k h. absurd (omega arith)))
@@ -172,7 +172,7 @@ module _ (l : Layout) (kept : valid l ≡ true) (eight : length l.bands ≡ 8) (
       let s = all_sound 1 (bands_of l) homed t r e in
       let j : ℕ = s.0 in
       let within = s.1 in
-      let long = (laid l kept eight).long in
+      let long = long l kept eight in
       let known : j < l.count = omega arith in
       let g = subst (λ x. Begun (1 + j) x t r) (used j known) s.2 in
       let number = g.band in
@@ -215,10 +215,10 @@ module _ (l : Layout) (kept : valid l ≡ true) (eight : length l.bands ≡ 8) (
   there k a t h s = by (begun 1 (bands_of l) t) refl
     where
       by : (o : Option Area) → begun 1 (bands_of l) t ≡ o → (r : Area) × Memᴰ r (areas_before l t ++ as_list o) × (r.band ≡ k + 1) × (r.purpose ≡ a)
-      by None e = let long = (laid l kept eight).long in absurd (all_none 1 (bands_of l) t k a e (omega arith) s)
+      by None e = let long = long l kept eight in absurd (all_none 1 (bands_of l) t k a e (omega arith) s)
       by (Some r) e =
           let g = all_sound 1 (bands_of l) homed t r e in
-          let long = (laid l kept eight).long in
+          let long = long l kept eight in
           let i = 32 * (t + 2) in
           let b0 = g.2.starts.0 in
           let b1 = g.2.starts.1 in
@@ -226,18 +226,18 @@ module _ (l : Layout) (kept : valid l ≡ true) (eight : length l.bands ≡ 8) (
           let s1 = s.1 in
           let here : InArea (get_or (bands_of l) k no_band) a (32 * (t + 2)) = (omega arith, omega arith) in
           let found : InArea (get_or (bands_of l) g.0 no_band) r.purpose (32 * (t + 2)) = (omega arith, omega arith) in
-          let one = one_place (sectors_for l.last) (bands_of l) (laid l kept eight).stand k g.0 a r.purpose (32 * (t + 2)) (omega arith) g.1 here found in
+          let one = one_place (sectors_for l.last) (bands_of l) (laid l kept).stand k g.0 a r.purpose (32 * (t + 2)) (omega arith) g.1 here found in
           let same = one.0 in
           let number = g.2.band in
           (r, Memᴰ.append_right (areas_before l t) (Memᴰ.head refl), omega arith, sym one.1)
 
   every_listed : (k : ℕ) (a : Purpose) → k < l.count → 1 ≤ size_of (band_of l k) a → ListedAs (l.last + 1) k a
   every_listed k a h some =
-      let long = (laid l kept eight).long in
+      let long = long l kept eight in
       let e = used k h in
       let w = whole_size k a in
       let w0 = w.0 in
-      let st = subst (Stands (sectors_for l.last)) e (stands (sectors_for l.last) (get_or (bands_of l) k no_band) (each_stands (sectors_for l.last) (bands_of l) (laid l kept eight).stand k (omega arith))) in
+      let st = subst (Stands (sectors_for l.last)) e (stands (sectors_for l.last) (get_or (bands_of l) k no_band) (each_stands (sectors_for l.last) (bands_of l) (laid l kept).stand k (omega arith))) in
       let inside = area_within (sectors_for l.last) (band_of l k) st a some in
       let low = inside.0 in
       let high = inside.1 in

@@ -1,7 +1,7 @@
 -- The bytes that a layout is written in, and what reading them gives.
-use Rattle.std.proofs.Common.{◌≡◌, ℕ, ◌+◌, ◌-◌, ◌*◌, ◌/◌, ◌%◌, ◌<◌, ◌≤◌, true, false, cond, ◌&&◌, ◌||◌, eqb, ltb, leb, List, map, length, get_or, Some, None, Option, is_none, Ok, sym, refl, ap, ◌∙◌, ⊎_elim, arith}
+use Rattle.std.proofs.Common.{◌≡◌, ℕ, ◌+◌, ◌-◌, ◌*◌, ◌/◌, ◌%◌, ◌<◌, ◌≤◌, true, false, cond, ◌&&◌, ◌||◌, eqb, ltb, List, map, length, get_or, Some, None, Option, is_none, Ok, sym, refl, ap, ◌∙◌, ⊎_elim, arith}
 use Rattle.maps.proofs.Formed.{kept, tracks_fitting}
-use Rattle.maps.proofs.Found.{laid, last_low}
+use Rattle.maps.proofs.Found.{laid, last_low, long}
 use Rattle.maps.proofs.Standing.{Stands, each_stands, primes_inside, stands}
 use Rattle.maps.specs.Places.{band_formed, band_of, band_stands, bands_of, first_home, first_in, homes_of, no_band, overflow, sectors_for, size_in, unused, valid, whole_tracks}
 use Rattle.maps.specs.Reading.{last_track, reading_layout}
@@ -13,7 +13,7 @@ use Rattle.maps.specs.declared.bands.Purpose.TheVariants.{Map, Alternative, Prim
 use Rattle.std.proofs.lemmas.List.FromFn.{get_or-map-range_with_len, length-map-range_with_len}
 use Rattle.std.proofs.lemmas.List.{ext_get_or, get_or-take}
 use Rattle.std.specs.List.{range_with_len}
-use Rattle.std.proofs.lemmas.Bool.{and_from, and_parts, both_ways, cases_Bool, cases_lt, cond-false, cond-true, eq-eqb, eqb-true, false≢true, true≢false, le-leb, le-ltb, lt-ltb, ne_eqb, or_cases}
+use Rattle.std.proofs.lemmas.Bool.{and_from, and_parts, both_ways, cases_Bool, cases_lt, cond-false, cond-true, eq-eqb, eqb-true, false≢true, true≢false, le-ltb, lt-ltb, ne_eqb, or_cases}
 
 -- a prime area that is there or not
 none_there : (o : Option Extent) → is_none o ≡ true → o ≡ None
@@ -45,15 +45,15 @@ byte_filler l i h m = later_byte l i h ∙ cond-false (ltb ((i - 3) / 8) l.count
 
 module _ (l : Layout) (kept : valid l ≡ true) (eight : length l.bands ≡ 8) where
   end_small : sectors_for l.last ≤ 640064
-  end_small = let s = (laid l kept eight).small in omega arith
+  end_small = let s = (laid l kept).small in omega arith
 
   pub bands_few : l.count ≤ 8
-  bands_few = (laid l kept eight).few
+  bands_few = (laid l kept).few
 
   standing : (k : ℕ) → k < l.count → Stands (sectors_for l.last) (band_of l k)
   standing k h =
-      let g = (laid l kept eight).long in
-      stands (sectors_for l.last) (band_of l k) (ap (band_stands (sectors_for l.last)) (sym (get_or-take l.count l.bands k no_band h)) ∙ each_stands (sectors_for l.last) (bands_of l) (laid l kept eight).stand k (omega arith))
+      let g = long l kept eight in
+      stands (sectors_for l.last) (band_of l k) (ap (band_stands (sectors_for l.last)) (sym (get_or-take l.count l.bands k no_band h)) ∙ each_stands (sectors_for l.last) (bands_of l) (laid l kept).stand k (omega arith))
 
   pub writable : (k : ℕ) → k < l.count → Writable (band_of l k)
   writable k h =
@@ -88,12 +88,8 @@ half_low x i =
     cond-false (eqb ((2 * i + 1) % 2) 0) _ _ (ne_eqb _ _ odd) ∙ ap (λ n. get_or (entry_numbers x) n 0 % 256) half
 
 -- the first sector of a track, and the sector again
-first_back : (s : ℕ) → 64 ≤ s → s < 640064 → s % 32 ≡ 0 → first_sector (track_of s) ≡ s
-unfolding first_sector
-first_back s low high whole =
-    let near : s / 32 - 2 ≤ 19999 = omega arith in
-    let e : 32 * (s / 32 - 2 + 2) ≡ s = omega arith in
-    cond-true (leb (s / 32 - 2) 19999) _ _ (le-leb _ _ near) ∙ e
+first_back : (s : ℕ) → 64 ≤ s → s % 32 ≡ 0 → first_sector (track_of s) ≡ s
+first_back s low whole = omega arith
 
 -- bands with the same parts, and layouts
 same_parts : (m s : ℕ) (o : Option Extent) (m' s' : ℕ) (o' : Option Extent) → m ≡ m' → s ≡ s' → o ≡ o' → ◌≡◌ {A = Band} (record { maps = m; spares = s; primes = o }) (record { maps = m'; spares = s'; primes = o' })
@@ -143,10 +139,10 @@ module _ (l : Layout) (kept : valid l ≡ true) (eight : length l.bands ≡ 8) (
         (eqb-true _ _ a.0, eqb-true _ _ a.1, eqb-true _ _ b.0, eqb-true _ _ b.1)
 
     maps_back : first_sector (first_track d k Map) ≡ x.maps
-    maps_back = let w = writable l kept eight k h in ap first_sector (tracks_back k h).0 ∙ first_back x.maps w.map_low w.map_high whole.0
+    maps_back = let w = writable l kept eight k h in ap first_sector (tracks_back k h).0 ∙ first_back x.maps w.map_low whole.0
 
     spares_back : first_sector (first_track d k Alternative) ≡ x.spares
-    spares_back = let w = writable l kept eight k h in ap first_sector (tracks_back k h).1 ∙ first_back x.spares w.spares_low w.spares_high whole.1
+    spares_back = let w = writable l kept eight k h in ap first_sector (tracks_back k h).1 ∙ first_back x.spares w.spares_low whole.1
 
     same_band : (o : Option Extent) → o ≡ x.primes → ◌≡◌ {A = Band} (record { maps = first_sector (first_track d k Map); spares = first_sector (first_track d k Alternative); primes = o }) x
     same_band o e = same_parts _ _ o x.maps x.spares x.primes maps_back spares_back e
@@ -175,7 +171,7 @@ module _ (l : Layout) (kept : valid l ≡ true) (eight : length l.bands ≡ 8) (
         let over : overflow_entry d k ≡ false = ap (λ b. b && eqb (prime_tracks d k) 65535) (ne_eqb (first_track d k Prime) 65535 far) in
         let whole_homes = whole.3 in
         let homes : 32 * prime_tracks d k ≡ homes_of x = omega arith in
-        same_band _ (cond-false (overflow_entry d k) _ _ over ∙ same_extent _ _ _ _ (ap first_sector first ∙ first_back (first_home x) low high whole.2) homes ∙ sym some)
+        same_band _ (cond-false (overflow_entry d k) _ _ over ∙ same_extent _ _ _ _ (ap first_sector first ∙ first_back (first_home x) low whole.2) homes ∙ sym some)
 
     band_back : band_at d k ≡ x
     band_back = ⊎_elim band_none band_some (cases_Bool (overflow x))
@@ -220,7 +216,7 @@ unfolding sheet_of
 read_back l v eight formed d e =
     let bytes : (i : ℕ) → i < 512 → get_or d i 0 ≡ sheet_byte l i = λ i h. ap (λ xs. get_or xs i 0) e ∙ get_or-map-range_with_len (sheet_byte l) 0 512 i i 0 h (omega arith) in
     let low = last_low l v in
-    let high = (laid l v eight).small in
+    let high = (laid l v).small in
     let fit = tracks_fitting l.last low high in
     let same : l ≡ layout_in (last_track (sectors_for l.last)) d = sym (ap (λ n. layout_in n d) fit.1 ∙ layout_back l v eight formed d bytes) in
     sym (kept (sectors_for l.last) d l (sym fit.0) same (and_from _ _ (identified_back l v eight formed d bytes) v))

@@ -3,6 +3,7 @@ use Rattle.std.specs.Prelude.{◌≡◌, ℕ, ◌+◌, ◌-◌, ◌*◌, ◌/◌
 use Rattle.std.specs.List.{filter_map, range_with_len}
 use mathlib.Core.List.{Memᴰ}
 use Rattle.maps.specs.Places.{band_of, bands_of, first_home, first_of, overflow, size_of}
+use Rattle.maps.specs.Sheets.{first_sector}
 use Rattle.maps.specs.declared.areas.Area.{Area}
 use Rattle.maps.specs.declared.bands.Band.{Band}
 use Rattle.maps.specs.declared.bands.Layout.{Layout}
@@ -20,9 +21,9 @@ area_from k x a t = area_of k a t (size_of x a)
 
 unfoldable pub begun_in : ℕ → Band → ℕ → Option Area
 begun_in k x t =
-    cond (x.maps == 32 * (t + 2)) (Some (area_from k x Map t))
-    (cond (x.spares == 32 * (t + 2)) (Some (area_from k x Alternative t))
-    (cond (not (overflow x) && first_home x == 32 * (t + 2)) (Some (area_from k x Prime t)) None))
+    cond (x.maps == first_sector t) (Some (area_from k x Map t))
+    (cond (x.spares == first_sector t) (Some (area_from k x Alternative t))
+    (cond (not (overflow x) && first_home x == first_sector t) (Some (area_from k x Prime t)) None))
 
 abbrev pub or_else : Option Area → Option Area → Option Area
 or_else (Some a) o = Some a

@@ -1,5 +1,5 @@
 -- The bytes of a layout sheet: the layout that they give, and those that a layout is written in.
-use Rattle.std.specs.Prelude.{◌≡◌, ℕ, ◌+◌, ◌-◌, ◌*◌, ◌/◌, ◌%◌, ◌<◌, ◌≤◌, Bool, false, cond, ◌&&◌, List, [], ◌∷◌, map, Some, None, Option, ◌==◌, nat_le, nat_lt, slice_index}
+use Rattle.std.specs.Prelude.{◌≡◌, ℕ, ◌+◌, ◌-◌, ◌*◌, ◌/◌, ◌%◌, ◌<◌, ◌≤◌, Bool, false, cond, ◌&&◌, List, [], ◌∷◌, map, Some, None, Option, ◌==◌, nat_lt, slice_index}
 use Rattle.maps.specs.Places.{band_of, first_home, homes_of, no_band, overflow}
 use Rattle.maps.specs.declared.bands.Band.{Band}
 use Rattle.maps.specs.declared.bands.Extent.{Extent}
@@ -38,8 +38,8 @@ unfoldable pub overflow_entry : List ℕ → ℕ → Bool
 overflow_entry d k = first_track d k Prime == 65535 && prime_tracks d k == 65535
 
 -- the first sector of a track; a track that no medium has begins behind the last sector of any
-unfoldable pub first_sector : ℕ → ℕ
-first_sector t = cond (nat_le t 19999) (32 * (t + 2)) 640064
+abbrev pub first_sector : ℕ → ℕ
+first_sector t = 32 * (t + 2)
 
 -- the prime area that entry k gives, and the band
 abbrev pub primes_at : List ℕ → ℕ → Extent

@@ -1,5 +1,5 @@
 // The areas of a band, as a person asks for them: by tracks.
-ghost use Rattle.std.specs.Prelude.{◌≡◌, ◌*◌, ◌^◌, ◌<◌, ◌≤◌, length};
+ghost use Rattle.std.specs.Prelude.{◌≡◌, ◌≤◌, length};
 ghost use Rattle.maps.specs.Areas.{area_of, begun, begun_in};
 
 use crate::bands::{AREA_SECTORS, Band, Purpose, SECTORS_PER_TRACK};
@@ -14,7 +14,7 @@ pub struct Area {
 }
 
 // The area of a band that begins on a track, if one does.
-fn begun_in(number: u8, band: Band, track: u32) -> Option<Area>
+fn begun_in(number: u8, band: Band, track: u16) -> Option<Area>
     ensures { result ≡ begun_in number band track }
 {
     if band.map_area().begins_on(track) {
@@ -31,20 +31,19 @@ fn begun_in(number: u8, band: Band, track: u32) -> Option<Area>
     }
 }
 
-fn area_from(band: u8, purpose: Purpose, track: u32, sectors: u32) -> Area
-    requires { 32 * track < 2 ^ 32 }
+fn area_from(band: u8, purpose: Purpose, track: u16, sectors: u32) -> Area
     ensures { result ≡ area_of band purpose track sectors }
 {
     Area {
-        first: track,
-        last: track + sectors.saturating_sub(1) / SECTORS_PER_TRACK,
+        first: u32::from(track),
+        last: u32::from(track) + sectors.saturating_sub(1) / SECTORS_PER_TRACK,
         band,
         purpose,
     }
 }
 
 // The area of some band that begins on a track, if one does.
-pub(crate) fn begun(bands: &[Band], track: u32) -> Option<Area>
+pub(crate) fn begun(bands: &[Band], track: u16) -> Option<Area>
     requires { length bands.now ≤ 8 }
     ensures { result ≡ begun 1 bands.now track }
 {

@@ -1,6 +1,7 @@
 // How a medium is divided: bands, each with its areas, given by sector numbers.
-ghost use Rattle.std.specs.Prelude.{◌≡◌, ◌+◌, ◌*◌, ◌<◌, ◌≤◌, ◌==◌};
-ghost use Rattle.maps.specs.Places.{apart, homes_of, inside};
+ghost use Rattle.std.specs.Prelude.{◌≡◌, ◌+◌, ◌<◌, ◌≤◌, ◌==◌};
+ghost use Rattle.maps.specs.Places.{apart, bands_of, homes_of, inside};
+ghost use Rattle.maps.specs.Sheets.{first_sector};
 
 pub const MOST_BANDS: usize = 8;
 
@@ -45,8 +46,8 @@ pub struct Band {
 // The last track of the medium, and its bands. Behind the first `count` stands `NO_BAND`.
 #[derive(Clone, Copy, PartialEq, Eq, Debug)]
 pub struct Layout {
-    pub last: u32,
-    pub count: u32,
+    pub last: u16,
+    pub count: u8,
     pub bands: [Band; MOST_BANDS],
 }
 
@@ -55,6 +56,13 @@ pub(crate) const NO_BAND: Band = Band {
     spares: 0,
     primes: None,
 };
+
+// The first sector of a track.
+pub(crate) fn first_sector(track: u16) -> u32
+    ensures { result ≡ first_sector track }
+{
+    SECTORS_PER_TRACK * (u32::from(track) + TRACKS_BEFORE_ZERO)
+}
 
 impl Extent {
     // The number behind the last sector.
@@ -78,11 +86,10 @@ impl Extent {
         self.first + place
     }
 
-    pub(crate) fn begins_on(self, track: u32) -> bool
-        ensures { result ≡ (self.first == 32 * (track + 2)) }
+    pub(crate) fn begins_on(self, track: u16) -> bool
+        ensures { result ≡ (self.first == first_sector track) }
     {
-        let tracks_before = u64::from(track) + u64::from(TRACKS_BEFORE_ZERO);
-        u64::from(self.first) == u64::from(SECTORS_PER_TRACK) * tracks_before
+        self.first == first_sector(track)
     }
 
     // Whether it lies within the tracks 0 to the last, where `end` is the number behind their last sector.
@@ -119,5 +126,14 @@ impl Band {
         ensures small { result ≤ 4294967295 }
     {
         self.primes.map_or(0, |primes| u64::from(primes.size))
+    }
+}
+
+impl Layout {
+    pub(crate) fn bands_in_use(&self) -> &[Band]
+        requires { self.now.count ≤ 8 }
+        ensures { result.now ≡ bands_of self.now }
+    {
+        &self.bands[..usize::from(self.count)]
     }
 }

@@ -1,10 +1,10 @@
 // The layout of a medium of this format, once it is known to keep the rules.
-ghost use Rattle.std.specs.Prelude.{◌≡◌, ℕ, true, negsuc, slice_index_or};
-ghost use Rattle.maps.specs.Places.{band_formed, no_band, valid};
+ghost use Rattle.std.specs.Prelude.{◌≡◌, ◌≤◌, ℕ, true, length, negsuc, slice_index_or};
+ghost use Rattle.maps.specs.Places.{band_formed, bands_of, no_band, valid};
 ghost use Rattle.std.proofs.Common.{rules, arith};
 
 use crate::bands;
-use crate::bands::Layout;
+use crate::bands::{Band, Layout};
 use format::Addressing;
 
 pub mod blocks;
@@ -17,6 +17,15 @@ pub struct Maps {
     layout: Layout,
     ghost kept: { valid layout ≡ true },
     ghost formed: { (k : ℕ) → band_formed layout.count k (slice_index_or layout.bands k no_band) ≡ true },
+}
+
+impl Maps {
+    fn bands(&self) -> &[Band]
+        ensures bands { result.now ≡ bands_of self.now.layout }
+        ensures few { length result.now ≤ 8 }
+    {
+        self.layout.bands_in_use()
+    }
 }
 
 impl Addressing for Maps {

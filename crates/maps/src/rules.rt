@@ -83,13 +83,12 @@ pub(crate) fn is_valid(layout: &Layout) -> bool
     requires { (8 ≤ layout.now.last) × (layout.now.last ≤ 19999) }
     ensures { result ≡ valid layout.now }
 {
-    let count = layout.count as usize;
-    if count > MOST_BANDS {
+    if usize::from(layout.count) > MOST_BANDS {
         return false;
     }
-    let bands = &layout.bands[..count];
-    let end = SECTORS_PER_TRACK * (layout.last + TRACKS_BEFORE_END);
-    (1 <= count) & ((1 <= homes_in(bands)) & bands_stand(end, bands))
+    let bands = layout.bands_in_use();
+    let end = SECTORS_PER_TRACK * (u32::from(layout.last) + TRACKS_BEFORE_END);
+    1 <= layout.count && 1 <= homes_in(bands) && bands_stand(end, bands)
 }
 
 // How many homes the bands have together.

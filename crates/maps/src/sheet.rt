@@ -1,12 +1,11 @@
 // The 512 bytes of a layout sheet, read and written.
 ghost use Rattle.std.specs.Prelude.{◌≡◌, ◌+◌, ◌*◌, ◌<◌, ◌≤◌, true, length};
 ghost use Rattle.maps.specs.Places.{valid};
-ghost use Rattle.maps.specs.Sheets.{Writable, band_at, band_or_none, entry_byte, entry_numbers, first_sector, identified, layout_in, sheet_byte, track_of, two_at};
+ghost use Rattle.maps.specs.Sheets.{Writable, band_at, band_or_none, entry_byte, entry_numbers, identified, layout_in, sheet_byte, track_of, two_at};
 
-use crate::bands::{Band, Extent, Layout, MOST_BANDS, NO_BAND, SECTORS_PER_TRACK};
+use crate::bands::{Band, Extent, Layout, NO_BAND, SECTORS_PER_TRACK, first_sector};
 use crate::maps::Maps;
-use format::{Address, address_of, number_of};
-use medium::MOST_SECTORS;
+use format::address_of;
 use std::array;
 
 pub const SHEET_BYTES: usize = 512;
@@ -23,7 +22,7 @@ const ENTRIES_AT: usize = 3;
 const ENTRY_BYTES: usize = 8;
 
 // What stands behind the last entry.
-pub(crate) const FILLER: u8 = 0xFF;
+const FILLER: u8 = 0xFF;
 
 // What stands in an overflow band in place of the first prime track and of the number of prime tracks.
 const NO_PRIME: u16 = 0xFFFF;
@@ -40,17 +39,6 @@ fn two_at(bytes: &[u8], at: usize) -> u16
     ensures { result ≡ two_at bytes.now at }
 {
     u16::from_be_bytes([bytes[at], bytes[at + 1]])
-}
-
-// The first sector of a track. A track that no medium has begins behind the last sector of any.
-fn first_sector(track: u16) -> u32
-    ensures { result ≡ first_sector track }
-{
-    let start = Address {
-        track: i32::from(track),
-        sector: 0,
-    };
-    number_of::<Maps>(start).unwrap_or(MOST_SECTORS)
 }
 
 // The band in the entry `k`.
@@ -94,12 +82,12 @@ fn band_or_none(sheet: &Sheet, k: usize) -> Band
 }
 
 // The layout that the sheet gives to a medium with the last track `last`.
-pub(crate) fn layout_in(last: u32, sheet: &Sheet) -> Layout
+pub(crate) fn layout_in(last: u16, sheet: &Sheet) -> Layout
     ensures { result ≡ layout_in last sheet.now }
 {
     Layout {
         last,
-        count: u32::from(sheet[COUNT_AT]),
+        count: sheet[COUNT_AT],
         bands: array::from_fn(|k| band_or_none(sheet, k)),
     }
 }
@@ -109,10 +97,10 @@ pub(crate) fn track_of(sector: u32) -> u16
     requires { (64 ≤ sector) × (sector < 640064) }
     ensures { result ≡ track_of sector }
 {
-    match address_of::<Maps>(sector) {
-        Some(address) => address.track as u16,
-        None => 0,
-    }
+    let Some(address) = address_of::<Maps>(sector) else {
+        unreachable()
+    };
+    address.track as u16
 }
 
 // The four numbers of a band's entry.
@@ -148,12 +136,11 @@ pub(crate) fn sheet_byte(layout: &Layout, at: usize) -> u8
         return IDENTIFIER[at];
     }
     if at == COUNT_AT {
-        return layout.count as u8;
+        return layout.count;
     }
-    let k = (at - ENTRIES_AT) / ENTRY_BYTES;
-    if k < layout.count as usize {
-        entry_byte(layout.bands[k], (at - ENTRIES_AT) % ENTRY_BYTES)
-    } else {
-        FILLER
+    let place = at - ENTRIES_AT;
+    match layout.bands_in_use().get(place / ENTRY_BYTES) {
+        Some(band) => entry_byte(*band, place % ENTRY_BYTES),
+        None => FILLER,
     }
 }

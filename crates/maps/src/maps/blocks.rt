@@ -12,7 +12,7 @@ impl Maps {
         ensures count { result ≡ blocks self.now.layout }
         ensures homes { HomesPlaced self.now.layout }
     {
-        homes_in(&self.layout.bands[..self.layout.count as usize]) as u32
+        homes_in(self.bands()) as u32
     }
 
     // The home of a block. Blocks number the prime sectors, band by band.
@@ -22,7 +22,7 @@ impl Maps {
         ensures homes { HomesPlaced self.now.layout }
     {
         let mut rest = block;
-        for band in &self.layout.bands[..self.layout.count as usize] {
+        for band in self.bands() {
             let Some(primes) = band.primes else {
                 continue;
             };

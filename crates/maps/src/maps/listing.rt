@@ -12,7 +12,7 @@ impl Maps {
         ensures list { IfOk result (λ v. v.items ≡ all_areas self.now.layout) }
         ensures areas { IfOk result (λ v. AreasListed self.now.layout v.items) }
     {
-        let bands = &self.layout.bands[..self.layout.count as usize];
+        let bands = self.bands();
         (0..self.layout.last + 1)
             .filter_map(|track| begun(bands, track))
             .collect(heap)

@@ -29,7 +29,8 @@ impl Maps {
         if !fits_format(sectors) {
             return Err(fault(Refusal::WrongSectorCount, 0));
         }
-        let layout = layout_in(sectors / SECTORS_PER_TRACK - TRACKS_BEFORE_END, sheet);
+        let last = (sectors / SECTORS_PER_TRACK - TRACKS_BEFORE_END) as u16;
+        let layout = layout_in(last, sheet);
         if !(is_identified(sheet) && is_valid(&layout)) {
             return Err(fault(Refusal::BrokenLayout, 0));
         }

@@ -1,5 +1,4 @@
-use Rattle.std.proofs.Common.{◌≡◌, ◌+◌, ◌≤◌, length, take, rules, IfOk, arith}
-use Rattle.std.proofs.iter.Serving.{serving}
+use Rattle.std.proofs.Common.{◌≡◌, ◌+◌, length, rules, IfOk, arith}
 use Rattle.std.proofs.lemmas.Iterator.{YieldsList-from_range, items_from_collect}
 use Rattle.std.proofs.lemmas.Iterator.Consumers.{YieldsList-from_filter_map}
 use Rattle.std.proofs.lemmas.Result.{IfOk-weaker}
@@ -9,27 +8,11 @@ use Rattle.maps.specs.Places.{bands_of}
 use Rattle.maps.specs.Areas.{AreasListed, all_areas, begun}
 use Rattle.maps.proofs.maps.Maps.areas.Goals as goal
 
-pub shared_ref_as_front-bands : goal.shared_ref_as_front-bands
-shared_ref_as_front-bands c =
-    let m = c.args.self.now in
-    let eight : length m.layout.bands ≡ 8 = omega arith in
-    (laid m.layout m.kept eight).few
-
 pub overflow_add-self : goal.overflow_add-self
 overflow_add-self c =
     let m = c.args.self.now in
-    let eight : length m.layout.bands ≡ 8 = omega arith in
-    let small = (laid m.layout m.kept eight).small in
+    let small = (laid m.layout m.kept).small in
     omega arith
-
-pub collect-requires-clause-can : goal.collect-requires-clause-can
-collect-requires-clause-can c =
-    let m = c.args.self.now in
-    let eight : length m.layout.bands ≡ 8 = omega arith in
-    let long = (laid m.layout m.kept eight).long in
-    let small = (laid m.layout m.kept eight).few in
-    let few : length (take m.layout.count m.layout.bands) ≤ 8 = omega arith in
-    grind serving
 
 pub returns : goal.returns
 unfolding all_areas
@@ -37,6 +20,7 @@ returns c =
     let m = c.args.self.now in
     let eight : length m.layout.bands ≡ 8 = omega arith in
     let h = begun 1 (bands_of m.layout) in
+    let same = c.bands-bands.ensures.bands in
     let list : IfOk c.collect.result (λ v. v.items ≡ all_areas m.layout) =
-    items_from_collect c.collect.result c.collect.ensures.ran (YieldsList-from_filter_map _ h (YieldsList-from_range 0 (m.layout.last + 1) (m.layout.last + 1) (cc) (omega arith)) c.filter_map.ensures.closure (λ x r q k. search rules)) in
+    items_from_collect c.collect.result c.collect.ensures.ran (YieldsList-from_filter_map _ h (YieldsList-from_range 0 (m.layout.last + 1) (m.layout.last + 1) (cc) (omega arith)) c.filter_map.ensures.closure (λ x r q k. search (rules, same))) in
     record { list = list; areas = IfOk-weaker c.collect.result (λ v. v.items ≡ all_areas m.layout) (λ v. AreasListed m.layout v.items) (λ v e. areas_listed m.layout m.kept eight m.formed v.items e) list }
