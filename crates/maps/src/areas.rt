@@ -31,6 +31,7 @@ fn begun_in(number: u8, band: Band, track: u16) -> Option<Area>
     }
 }
 
+// An area without sectors would end on its first track; a layout that keeps the rules has none.
 fn area_from(band: u8, purpose: Purpose, track: u16, sectors: u32) -> Area
     ensures { result ≡ area_of band purpose track sectors }
 {

@@ -44,6 +44,7 @@ pub struct Band {
 }
 
 // The last track of the medium, and its bands. Behind the first `count` stands `NO_BAND`.
+// An array and a count, since a sheet is read without a heap, and no list of the kit on the stack is copied.
 #[derive(Clone, Copy, PartialEq, Eq, Debug)]
 pub struct Layout {
     pub last: u16,
@@ -130,6 +131,7 @@ impl Band {
 }
 
 impl Layout {
+    // The first `count` of the bands.
     pub(crate) fn bands_in_use(&self) -> &[Band]
         requires { self.now.count ≤ 8 }
         ensures { result.now ≡ bands_of self.now }

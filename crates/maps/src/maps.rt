@@ -20,6 +20,7 @@ pub struct Maps {
 }
 
 impl Maps {
+    // The bands that are in use.
     fn bands(&self) -> &[Band]
         ensures bands { result.now ≡ bands_of self.now.layout }
         ensures few { length result.now ≤ 8 }

@@ -13,6 +13,7 @@ impl Maps {
         ensures areas { IfOk result (λ v. AreasListed self.now.layout v.items) }
     {
         let bands = self.bands();
+        // No lemma of the library lists what `0..=last` gives.
         (0..self.layout.last + 1)
             .filter_map(|track| begun(bands, track))
             .collect(heap)
