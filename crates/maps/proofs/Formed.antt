@@ -57,7 +57,7 @@ band_in n d k h = get_or-map-range_with_len (band_or_none d) 0 8 k k no_band h (
 
 -- place k in use has the band of entry k
 pub band_used : (n : ℕ) (d : List ℕ) (k : ℕ) → band_count d ≤ 8 → k < band_count d → get_or (bands_of (layout_in n d)) k no_band ≡ band_at d k
-unfolding layout_in band_or_none
+unfolding layout_in
 band_used n d k few h =
     get_or-take (band_count d) (map (band_or_none d) (range_with_len 0 8)) k no_band h
     ∙ get_or-map-range_with_len (band_or_none d) 0 8 k k no_band (omega arith) (omega arith)
@@ -77,7 +77,6 @@ whole_at d k =
     and_from _ _ (and_from _ _ (eq-eqb _ _ m) (eq-eqb _ _ s)) (and_from _ _ (eq-eqb _ _ f) (eq-eqb _ _ h))
 
 formed_or_none : (d : List ℕ) (k : ℕ) → band_formed (band_count d) k (band_or_none d k) ≡ true
-unfolding band_or_none
 formed_or_none d k =
     cond_both (ltb k (band_count d)) (band_at d k) no_band (λ x. band_formed (band_count d) k x ≡ true)
     (λ t. and_from _ _ (whole_at d k) (or_left _ _ t))

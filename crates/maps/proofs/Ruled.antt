@@ -266,7 +266,6 @@ module _ (n : ℕ) (d : List ℕ) (small : n ≤ 19999) where
         (cases_Bool (overflow_entry d k))
 
     band_kept : (k : ℕ) → k < band_count d → band_stands (sectors_for n) (band_at d k) ≡ true
-    unfolding band_stands
     band_kept k h =
         and_from _ _ (and_from _ _ (area_inside k Map h (omega arith)) (area_inside k Alternative h (omega arith)))
         (and_from _ _ (areas_apart k k Map Alternative h h (λ _ e. absurd (map_alternative e)))

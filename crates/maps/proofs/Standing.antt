@@ -46,11 +46,9 @@ primes_from y (Some e) f = area_from e.first e.size y f
 
 -- two bands: they rise, and any two of their areas are apart
 pub pair_rises : (x y : Band) → bands_apart x y ≡ true → rises_to x y ≡ true
-unfolding bands_apart
 pair_rises x y t = (and_parts (rises_to x y) _ t).0
 
 pub pair_by : (x y : Band) → bands_apart x y ≡ true → (a b : Purpose) → apart_by x a y b ≡ true
-unfolding bands_apart
 pair_by x y t Map b = area_by _ _ y (and_parts (area_apart x.maps 128 y) _ (and_parts (rises_to x y) _ t).1).0 b
 pair_by x y t Alternative b =
     area_by _ _ y (and_parts (area_apart x.spares 128 y) _ (and_parts (area_apart x.maps 128 y) _ (and_parts (rises_to x y) _ t).1).1).0 b
@@ -58,7 +56,6 @@ pair_by x y t Prime b =
     primes_by y x.primes (and_parts (area_apart x.spares 128 y) _ (and_parts (area_apart x.maps 128 y) _ (and_parts (rises_to x y) _ t).1).1).1 b
 
 pub pair_from : (x y : Band) → rises_to x y ≡ true → ((a b : Purpose) → apart_by x a y b ≡ true) → bands_apart x y ≡ true
-unfolding bands_apart
 pair_from x y t f =
     and_from _ _ t (and_from _ _ (area_from x.maps 128 y (f Map)) (and_from _ _ (area_from x.spares 128 y (f Alternative)) (primes_from y x.primes (f Prime))))
 
@@ -108,7 +105,6 @@ pub record Stands (end : ℕ) (x : Band) : Type 0 where
   pub primes : PrimesStand end x x.primes
 
 pub stands : (end : ℕ) (x : Band) → band_stands end x ≡ true → Stands end x
-unfolding band_stands
 stands end x t =
     let h = and_parts (inside end x.maps 128 && inside end x.spares 128) _ t in
     let two = and_parts (inside end x.maps 128) (inside end x.spares 128) h.0 in

@@ -28,11 +28,10 @@ refused_rules p d l f t e v g =
 
 module _ (n : ℕ) (d : List ℕ) (r : LayoutRules n d) (high : n ≤ 19999) (low : 8 ≤ n) where
   used : (k : ℕ) → k < band_count d → band_of (layout_in n d) k ≡ band_at d k
-  unfolding band_or_none
   used k h = let few = r.few_bands in band_in n d k (omega arith) ∙ cond-true (ltb k (band_count d)) _ _ (lt-ltb _ _ h)
 
   beyond : (k : ℕ) → band_count d ≤ k → band_of (layout_in n d) k ≡ no_band
-  unfolding band_or_none layout_in
+  unfolding layout_in
   beyond k h =
       ⊎_elim
       (λ l. band_in n d k l ∙ cond-false (ltb k (band_count d)) _ _ (le-ltb _ _ h))

@@ -74,14 +74,12 @@ module _ (l : Layout) (kept : valid l ≡ true) (eight : length l.bands ≡ 8) w
 
 -- a number's two bytes, and the number again
 half_high : (x : Band) (i : ℕ) → entry_byte x (2 * i) ≡ get_or (entry_numbers x) i 0 / 256
-unfolding entry_byte
 half_high x i =
     let even : 2 * i % 2 ≡ 0 = omega arith in
     let half : 2 * i / 2 ≡ i = omega arith in
     cond-true (eqb (2 * i % 2) 0) _ _ (eq-eqb _ _ even) ∙ ap (λ n. get_or (entry_numbers x) n 0 / 256) half
 
 half_low : (x : Band) (i : ℕ) → entry_byte x (2 * i + 1) ≡ get_or (entry_numbers x) i 0 % 256
-unfolding entry_byte
 half_low x i =
     let odd : (2 * i + 1) % 2 ≡ 0 → ⊥ = λ e. omega arith in
     let half : (2 * i + 1) / 2 ≡ i = omega arith in
@@ -122,7 +120,7 @@ module _ (l : Layout) (kept : valid l ≡ true) (eight : length l.bands ≡ 8) (
       omega arith
 
   tracks_back : (k : ℕ) → k < l.count → (first_track d k Map ≡ track_of (band_of l k).maps) × (first_track d k Alternative ≡ track_of (band_of l k).spares) × (first_track d k Prime ≡ get_or (prime_numbers (band_of l k).primes) 0 0) × (prime_tracks d k ≡ get_or (prime_numbers (band_of l k).primes) 1 0)
-  unfolding first_track prime_tracks entry_numbers
+  unfolding first_track prime_tracks
   tracks_back k h =
       (number_back k 0 (8 * k + 3) h (omega arith) (omega arith), number_back k 1 (8 * k + 5) h (omega arith) (omega arith), number_back k 2 (8 * k + 7) h (omega arith) (omega arith), number_back k 3 (8 * k + 9) h (omega arith) (omega arith))
 
@@ -189,7 +187,6 @@ module _ (l : Layout) (kept : valid l ≡ true) (eight : length l.bands ≡ 8) (
   count_back = bytes 2 (omega arith) ∙ byte_count l 2 refl
 
   place_back : (k : ℕ) → band_or_none d k ≡ band_of l k
-  unfolding band_or_none
   place_back k =
       let e = count_back in
       ⊎_elim

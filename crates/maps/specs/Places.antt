@@ -86,7 +86,7 @@ primes_stand end x e =
     && (apart x.maps 128 e.first e.size && apart x.spares 128 e.first e.size))
 
 -- the areas of a band lie within the tracks, and apart
-unfoldable pub band_stands : ℕ → Band → Bool
+abbrev pub band_stands : ℕ → Band → Bool
 band_stands end x =
     (inside end x.maps 128 && inside end x.spares 128)
     && (apart x.maps 128 x.spares 128 && option_map_or (primes_stand end x) x.primes true)
@@ -102,7 +102,7 @@ abbrev pub rises_to : Band → Band → Bool
 rises_to x y = overflow x || (overflow y || nat_lt (first_home x) (first_home y))
 
 -- the areas of x and of a later band have no sector in common
-unfoldable pub bands_apart : Band → Band → Bool
+abbrev pub bands_apart : Band → Band → Bool
 bands_apart x y =
     rises_to x y
     && (area_apart x.maps 128 y

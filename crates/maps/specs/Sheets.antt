@@ -54,7 +54,7 @@ band_at d k =
     }
 
 -- place k of the eight: an entry's band if it is in use
-unfoldable pub band_or_none : List ℕ → ℕ → Band
+abbrev pub band_or_none : List ℕ → ℕ → Band
 band_or_none d k = cond (nat_lt k (band_count d)) (band_at d k) no_band
 
 -- the layout that the bytes d give to a medium whose last track is n
@@ -70,11 +70,11 @@ abbrev pub prime_numbers : Option Extent → List ℕ
 prime_numbers None = 65535 ∷ 65535 ∷ []
 prime_numbers (Some e) = track_of e.first ∷ e.size / 32 ∷ []
 
-unfoldable pub entry_numbers : Band → List ℕ
+abbrev pub entry_numbers : Band → List ℕ
 entry_numbers x = track_of x.maps ∷ track_of x.spares ∷ prime_numbers x.primes
 
 -- byte j of the eight bytes of a band
-unfoldable pub entry_byte : Band → ℕ → ℕ
+abbrev pub entry_byte : Band → ℕ → ℕ
 entry_byte x j = let n = slice_index (entry_numbers x) (j / 2) in cond (j % 2 == 0) (n / 256) (n % 256)
 
 -- byte i of the sheet that a layout is written in: (00) (00), the number of bands, the bands, and then (FF)

@@ -33,18 +33,3 @@ returns-then-rest-primes c =
       homes = homes_placed m.layout m.kept eight;
     }
 
-pub loop-band-preserved : goal.loop-band-preserved
-loop-band-preserved c =
-    let bs = c.bands-band-items.result.now in
-    let size = ap size_in c.in-Some.is in
-    subst (λ n. Finding bs c.args.block (c.loop-band.band-index + 1) (c.loop-band.rest - n)) size (finding_next bs c.args.block c.loop-band.band-index c.loop-band.rest c.loop-band.invariant c.loop-band-test.true (omega arith))
-
-pub loop-band-preserved-in_default : goal.loop-band-preserved-in_default
-loop-band-preserved-in_default c =
-    let bs = c.bands-band-items.result.now in
-    let size = ap size_in c.in_default.is in
-    let same : c.loop-band.rest - homes_of (get_or bs c.loop-band.band-index no_band) ≡ c.loop-band.rest = omega arith in
-    subst (Finding bs c.args.block (c.loop-band.band-index + 1)) same (finding_next bs c.args.block c.loop-band.band-index c.loop-band.rest c.loop-band.invariant c.loop-band-test.true (omega arith))
-
-pub unreachable-requires : goal.unreachable-requires
-unreachable-requires c = finding_last _ c.args.block c.loop-band.band-index c.loop-band.rest c.loop-band.invariant c.loop-band-test.false
