@@ -1,5 +1,6 @@
 -- The homes of a layout that keeps the rules, and the loop that finds one.
-use Rattle.std.proofs.Common.{◌≡◌, ℕ, zero, suc, ◌+◌, ◌-◌, ◌*◌, ◌<◌, ◌≤◌, true, false, ◌&&◌, ltb, leb, List, [], ◌∷◌, length, get_or, drop, Some, None, Option, is_none, sym, refl, ap, ◌∙◌, subst, ⊎_elim, arith}
+use Rattle.std.proofs.lemmas.Grind.{common_steps}
+use Rattle.std.proofs.Common.{◌≡◌, ℕ, zero, suc, ◌+◌, ◌-◌, ◌*◌, ◌<◌, ◌≤◌, true, false, leb, List, [], ◌∷◌, length, get_or, drop, Some, None, Option, is_none, sym, ap, ◌∙◌, subst, ⊎_elim, arith}
 use Rattle.maps.proofs.Standing.{each_stands, one_area, pair_by, pair_rises, pair_separate, primes_inside, stands, two_apart}
 use Rattle.maps.specs.Homes.{HomesPlaced}
 use Rattle.maps.specs.Places.{InArea, band_of, bands_apart, bands_of, bands_stand, block_count, blocks, first_home, home, home_in, homes_of, no_band, overflow, sectors_for, size_in, valid}
@@ -8,15 +9,15 @@ use Rattle.maps.specs.declared.bands.Band.{Band}
 use Rattle.maps.specs.declared.bands.Layout.{Layout}
 use Rattle.maps.specs.declared.bands.Purpose.{Purpose}
 use Rattle.maps.specs.declared.bands.Purpose.TheVariants.{Prime}
-use Rattle.std.proofs.lemmas.List.{at_drop_all, drop_more, get_or-take, length-take-le}
-use Rattle.std.proofs.lemmas.Bool.{and_parts, both_ways, cases_lt, cases_order, cond-false, cond-true, le-ltb, leb-true, lt-ltb, ltb-true, or_cases}
+use Rattle.std.proofs.lemmas.List.{get_or-take}
+use Rattle.std.proofs.lemmas.Bool.{both_ways, cases_lt, cases_order, leb-true, ltb-true, or_cases}
 
 -- the home of a block of the first band, and of a block of a later one
 home_here : (x : Band) (xs : List Band) (b : ℕ) → b < homes_of x → home_in (x ∷ xs) b ≡ first_home x + b
-home_here x xs b h = cond-true (ltb b (homes_of x)) _ _ (lt-ltb _ _ h)
+home_here x xs b h = grind (arith, common_steps)
 
 home_later : (x : Band) (xs : List Band) (b : ℕ) → homes_of x ≤ b → home_in (x ∷ xs) b ≡ home_in xs (b - homes_of x)
-home_later x xs b h = cond-false (ltb b (homes_of x)) _ _ (le-ltb _ _ h)
+home_later x xs b h = grind (arith, common_steps)
 
 -- the band that holds the home of block b
 pub own : (bs : List Band) (b : ℕ) → b < block_count bs → (k : ℕ) × (k < length bs) × InArea (get_or bs k no_band) Prime (home_in bs b)
@@ -47,8 +48,8 @@ onto (x ∷ xs) (suc k) i h p =
 
 -- a band with a home has a prime area
 pub some_area : (o : Option Extent) → 1 ≤ size_in o → is_none o ≡ false
-some_area None h = absurd (omega arith)
-some_area (Some e) h = refl
+some_area None h = grind (arith, common_steps)
+some_area (Some e) h = grind (arith, common_steps)
 
 module _ (end : ℕ) where
   -- the homes of a later band lie behind those of a band before
@@ -69,7 +70,7 @@ module _ (end : ℕ) where
       (or_cases (leb (first_home x + homes_of x) (first_home y)) _ (pair_by x y t Prime Prime))
 
   rest_stands : (x : Band) (xs : List Band) → bands_stand end (x ∷ xs) ≡ true → bands_stand end xs ≡ true
-  rest_stands x xs t = (and_parts _ (bands_stand end xs) t).1
+  rest_stands x xs t = grind (arith, common_steps)
 
   rises : (bs : List Band) → bands_stand end bs ≡ true → (b c : ℕ) → c < block_count bs → b < c → home_in bs b < home_in bs c
   rises [] t b c h l = absurd (omega arith)
@@ -129,35 +130,12 @@ pub record Finding (bs : List Band) (b i rest : ℕ) : Type 0 where
   pub same : home_in (drop i bs) rest ≡ home_in bs b
   pub less : rest < block_count (drop i bs)
 
-module _ (bs : List Band) (b i rest : ℕ) (g : Finding bs b i rest) where
-  pub finding_last : length bs ≤ i → ⊥
-  finding_last d =
-      let none : block_count (drop i bs) ≡ 0 = at_drop_all block_count bs i d in
-      let k = g.less in
-      omega arith
-
-  module _ (more : i < length bs) where
-    abbrev here : Band
-    here = get_or bs i no_band
-
-    split : drop i bs ≡ here ∷ drop (i + 1) bs
-    split = drop_more bs i no_band more
-
-    pub finding_here : rest < homes_of here → first_home here + rest ≡ home_in bs b
-    finding_here h = sym (home_here here (drop (i + 1) bs) rest h) ∙ sym (ap (λ k. home_in k rest) split) ∙ g.same
-
-    pub finding_next : homes_of here ≤ rest → Finding bs b (i + 1) (rest - homes_of here)
-    finding_next h =
-        let all : rest < homes_of here + block_count (drop (i + 1) bs) = subst (λ k. rest < block_count k) split g.less in
-        record { same = sym (home_later here (drop (i + 1) bs) rest h) ∙ sym (ap (λ k. home_in k rest) split) ∙ g.same; less = omega arith }
-
 pub last_low : (l : Layout) → valid l ≡ true → 8 ≤ l.last
-unfolding valid
-last_low l kept = leb-true _ _ (and_parts (leb 8 l.last) (leb l.last 19999) (and_parts (leb 8 l.last && leb l.last 19999) _ kept).0).0
+last_low l kept = grind (arith, common_steps)
 
 -- place k of the bands that are in use is place k of the eight
 pub band_found : (l : Layout) (bs : List Band) (k : ℕ) (x : Band) → bs ≡ bands_of l → k < l.count → x ≡ get_or bs k no_band → x ≡ band_of l k
-band_found l bs k x e h f = f ∙ ap (λ ys. get_or ys k no_band) e ∙ get_or-take l.count l.bands k no_band h
+band_found l bs k x e h f = grind (arith, common_steps)
 
 module _ (l : Layout) (kept : valid l ≡ true) where
   -- what a valid layout keeps
@@ -167,14 +145,7 @@ module _ (l : Layout) (kept : valid l ≡ true) where
     pub stand : bands_stand (sectors_for l.last) (bands_of l) ≡ true
 
   pub laid : Laid
-  unfolding valid
-  laid =
-      let a = and_parts (leb 8 l.last && leb l.last 19999) _ kept in
-      let t = and_parts (leb 8 l.last) _ a.0 in
-      let b = and_parts (leb 1 l.count && leb l.count 8) _ a.1 in
-      let c = and_parts (leb 1 l.count) _ b.0 in
-      let e = and_parts (leb 1 (block_count (bands_of l))) _ b.1 in
-      record { small = leb-true _ _ t.1; few = leb-true _ _ c.1; stand = e.1 }
+  laid = grind (arith, common_steps)
 
   pub blocks_few : length (bands_of l) ≤ 8 → block_count (bands_of l) ≤ 5120512
   blocks_few f =
@@ -183,7 +154,6 @@ module _ (l : Layout) (kept : valid l ≡ true) where
       omega arith
 
   home_inside : (b : ℕ) → b < blocks l → (64 ≤ home l b) × (home l b < sectors_for l.last)
-  unfolding blocks home
   home_inside b h =
       let o = own (bands_of l) b h in
       let low = o.2.0 in
@@ -196,18 +166,16 @@ module _ (l : Layout) (kept : valid l ≡ true) where
       (omega arith, omega arith)
 
   homes_rise : (b c : ℕ) → c < blocks l → b < c → home l b < home l c
-  unfolding blocks home
   homes_rise b c h m = rises (sectors_for l.last) (bands_of l) laid.stand b c h m
 
   module _ (eight : length l.bands ≡ 8) where
     pub long : length (bands_of l) ≡ l.count
-    long = let few = laid.few in length-take-le l.count l.bands (omega arith)
+    long = grind (arith, common_steps)
 
     used : (k : ℕ) → k < l.count → get_or (bands_of l) k no_band ≡ band_of l k
     used k h = get_or-take l.count l.bands k no_band h
 
     pub homes_placed : HomesPlaced l
-    unfolding blocks home
     homes_placed =
         let g = long in
         record {

@@ -1,5 +1,6 @@
 -- The test of a layout decides the rules.
-use Rattle.std.proofs.Common.{◌≡◌, ℕ, ◌+◌, ◌-◌, ◌*◌, ◌<◌, ◌≤◌, true, false, ◌&&◌, eqb, ltb, leb, List, get_or, Some, None, is_none, sym, refl, ap, ◌∙◌, subst, ⊎_elim, arith}
+use Rattle.std.proofs.lemmas.Grind.{common_steps}
+use Rattle.std.proofs.Common.{◌≡◌, ℕ, ◌+◌, ◌-◌, ◌*◌, ◌<◌, ◌≤◌, max, true, false, ◌&&◌, eqb, ltb, leb, List, get_or, Some, None, is_none, sym, refl, ap, ◌∙◌, subst, ⊎_elim, arith}
 use Rattle.maps.proofs.Formed.{band_used, used_many}
 use Rattle.maps.proofs.Standing.{Stands, all_stand, apart_by, each_stands, homes_within, one_area, pair_from, pair_rises, pair_separate, primes_inside, primes_pass, some_home, stands, two_apart}
 use Rattle.maps.specs.Places.{InArea, apart, band_stands, bands_apart, bands_of, bands_stand, block_count, first_home, first_in, first_of, homes_of, inside, no_band, overflow, rises_to, sectors_for, size_in, size_of, valid}
@@ -11,23 +12,13 @@ use Rattle.std.proofs.lemmas.Bool.{and_from, and_parts, both_ways, cases_Bool, c
 
 -- the tests of two areas and of one, from what they say
 before : (a m c n : ℕ) → a + m ≤ c → apart a m c n ≡ true
-before a m c n h = or_left (leb (a + m) c) (leb (c + n) a) (le-leb (a + m) c h)
+before a m c n h = grind (arith, common_steps)
 
 behind : (a m c n : ℕ) → c + n ≤ a → apart a m c n ≡ true
-behind a m c n h = or_right (leb (a + m) c) (leb (c + n) a) (le-leb (c + n) a h)
+behind a m c n h = grind (arith, common_steps)
 
 within_tracks : (end a k : ℕ) → 64 ≤ a → a + k ≤ end → inside end a k ≡ true
-within_tracks end a k l h = and_from (leb 64 a) (leb (a + k) end) (le-leb 64 a l) (le-leb (a + k) end h)
-
--- the three uses differ
-map_alternative : Map ≡ Alternative → ⊥
-map_alternative e = let z : ◌≡◌ {A = ℕ} 0 1 = cc in omega arith
-
-map_prime : Map ≡ Prime → ⊥
-map_prime e = let z : ◌≡◌ {A = ℕ} 0 1 = cc in omega arith
-
-alternative_prime : Alternative ≡ Prime → ⊥
-alternative_prime e = let z : ◌≡◌ {A = ℕ} 0 1 = cc in omega arith
+within_tracks end a k l h = grind (arith, common_steps)
 
 module _ (n : ℕ) (d : List ℕ) (small : n ≤ 19999) where
   -- the area of band k for the use a, in sectors and in tracks
@@ -37,15 +28,13 @@ module _ (n : ℕ) (d : List ℕ) (small : n ≤ 19999) where
     pub end : first_track d k a + tracks_of d k a ≤ n + 1
 
   pub no_primes : (k : ℕ) → overflow_entry d k ≡ true → (band_at d k).primes ≡ None
-  unfolding band_at
   no_primes k e = cond-true (overflow_entry d k) _ _ e
 
   some_primes : (k : ℕ) → overflow_entry d k ≡ false → (band_at d k).primes ≡ Some (primes_at d k)
-  unfolding band_at
   some_primes k e = cond-false (overflow_entry d k) _ _ e
 
   no_prime : (k : ℕ) → overflow_entry d k ≡ true → (first_home (band_at d k) ≡ 0) × (homes_of (band_at d k) ≡ 0)
-  no_prime k e = (ap first_in (no_primes k e), ap size_in (no_primes k e))
+  no_prime k e = grind (arith, common_steps)
 
   prime_first : (k : ℕ) → overflow_entry d k ≡ false → first_home (band_at d k) ≡ first_sector (first_track d k Prime)
   prime_first k e = ap first_in (some_primes k e)
@@ -54,11 +43,9 @@ module _ (n : ℕ) (d : List ℕ) (small : n ≤ 19999) where
   prime_homes k e = ap size_in (some_primes k e)
 
   map_first : (k : ℕ) → (band_at d k).maps ≡ first_sector (first_track d k Map)
-  unfolding band_at
   map_first k = refl
 
   spares_first : (k : ℕ) → (band_at d k).spares ≡ first_sector (first_track d k Alternative)
-  unfolding band_at
   spares_first k = refl
 
   -- a band that stands has its areas where the sheet says
@@ -85,12 +72,7 @@ module _ (n : ℕ) (d : List ℕ) (small : n ≤ 19999) where
 
   -- a track of an area is a sector of it
   lies : (k : ℕ) (a : Purpose) (t : ℕ) → LiesIn d k a t → AreaAt k a → InArea (band_at d k) a (32 * (t + 2))
-  lies k a t l r =
-      let f = r.first in
-      let s = r.size in
-      let from = l.from in
-      let before = l.before in
-      (omega arith, omega arith)
+  lies k a t l r = grind (arith, common_steps)
 
   some_tracks : (k : ℕ) (a : Purpose) (t : ℕ) → LiesIn d k a t → 1 ≤ tracks_of d k a
   some_tracks k a t l = let from = l.from in let before = l.before in omega arith
@@ -100,11 +82,7 @@ module _ (n : ℕ) (d : List ℕ) (small : n ≤ 19999) where
     in_band k a t l = lies k a t l (stood k (each k l.band) a (some_tracks k a t l))
 
     inside_rule : (k : ℕ) (a : Purpose) (t : ℕ) → LiesIn d k a t → t ≤ n
-    inside_rule k a t l =
-        let r = stood k (each k l.band) a (some_tracks k a t l) in
-        let e = r.end in
-        let before = l.before in
-        omega arith
+    inside_rule k a t l = grind (arith, common_steps)
 
     disjoint_rule : (k j : ℕ) (a b : Purpose) (t : ℕ) → LiesIn d k a t → LiesIn d j b t → (k ≡ j) × (a ≡ b)
     disjoint_rule k j a b t l m =
@@ -116,16 +94,10 @@ module _ (n : ℕ) (d : List ℕ) (small : n ≤ 19999) where
         (cases_order k j)
 
     some_track_rule : (k : ℕ) → HasPrime d k → 1 ≤ prime_tracks d k
-    some_track_rule k h =
-        let hs = prime_homes k h.1 in
-        let some = (each k h.0).primes.some_home (ap is_none (some_primes k h.1)) in
-        omega arith
+    some_track_rule k h = grind (arith, common_steps)
 
     prime_area : (k : ℕ) → HasPrime d k → AreaAt k Prime
-    prime_area k h =
-        let tr : tracks_of d k Prime ≡ prime_tracks d k = cond-false (overflow_entry d k) 0 (prime_tracks d k) h.1 in
-        let s = some_track_rule k h in
-        stood k (each k h.0) Prime (omega arith)
+    prime_area k h = grind (arith, common_steps)
 
     rising_rule : (k j : ℕ) → HasPrime d k → HasPrime d j → k < j → first_track d k Prime < first_track d j Prime
     rising_rule k j h m l =
@@ -141,7 +113,6 @@ module _ (n : ℕ) (d : List ℕ) (small : n ≤ 19999) where
 
   -- what the test passes keeps the rules
   pub rules_kept : (identified d && valid (layout_in n d)) ≡ true → LayoutRules n d
-  unfolding valid layout_in
   rules_kept t =
       let h = and_parts (identified d) (valid (layout_in n d)) t in
       let ids = and_parts (eqb (get_or d 0 0) 0) (eqb (get_or d 1 0) 0) h.0 in
@@ -218,18 +189,10 @@ module _ (n : ℕ) (d : List ℕ) (small : n ≤ 19999) where
         (λ (l : first_track d k a < first_track d j b + tracks_of d j b).
         ⊎_elim
         (λ (o : first_track d j b < first_track d k a + tracks_of d k a).
-        ⊎_elim
-        (λ (u : first_track d k a < first_track d j b).
-        let here : LiesIn d k a (first_track d j b) = record { band = h; from = omega arith; before = o } in
-        let there : LiesIn d j b (first_track d j b) = record { band = m; from = omega arith; before = omega arith } in
-        let same = r.disjoint k j a b (first_track d j b) here there in
+        let here : LiesIn d k a (max (first_track d k a) (first_track d j b)) = record { band = h; from = omega arith; before = omega arith } in
+        let there : LiesIn d j b (max (first_track d k a) (first_track d j b)) = record { band = m; from = omega arith; before = omega arith } in
+        let same = r.disjoint k j a b (max (first_track d k a) (first_track d j b)) here there in
         absurd (other same.0 same.1))
-        (λ (u : first_track d j b ≤ first_track d k a).
-        let here : LiesIn d k a (first_track d k a) = record { band = h; from = omega arith; before = omega arith } in
-        let there : LiesIn d j b (first_track d k a) = record { band = m; from = u; before = l } in
-        let same = r.disjoint k j a b (first_track d k a) here there in
-        absurd (other same.0 same.1))
-        (cases_lt (first_track d k a) (first_track d j b)))
         (λ (o : first_track d k a + tracks_of d k a ≤ first_track d j b). before (first_of (band_at d k) a) (size_of (band_at d k) a) (first_of (band_at d j) b) (size_of (band_at d j) b) (omega arith))
         (cases_lt (first_track d j b) (first_track d k a + tracks_of d k a)))
         (λ (l : first_track d j b + tracks_of d j b ≤ first_track d k a). behind (first_of (band_at d k) a) (size_of (band_at d k) a) (first_of (band_at d j) b) (size_of (band_at d j) b) (omega arith))
@@ -268,8 +231,8 @@ module _ (n : ℕ) (d : List ℕ) (small : n ≤ 19999) where
     band_kept : (k : ℕ) → k < band_count d → band_stands (sectors_for n) (band_at d k) ≡ true
     band_kept k h =
         and_from _ _ (and_from _ _ (area_inside k Map h (omega arith)) (area_inside k Alternative h (omega arith)))
-        (and_from _ _ (areas_apart k k Map Alternative h h (λ _ e. absurd (map_alternative e)))
-        (primes_pass (sectors_for n) (band_at d k) (band_at d k).primes (primes_kept k h) (areas_apart k k Map Prime h h (λ _ e. absurd (map_prime e))) (areas_apart k k Alternative Prime h h (λ _ e. absurd (alternative_prime e)))))
+        (and_from _ _ (areas_apart k k Map Alternative h h (λ _ e. cc))
+        (primes_pass (sectors_for n) (band_at d k) (band_at d k).primes (primes_kept k h) (areas_apart k k Map Prime h h (λ _ e. cc)) (areas_apart k k Alternative Prime h h (λ _ e. cc))))
 
     two_kept : (k j : ℕ) → k < j → j < band_count d → bands_apart (band_at d k) (band_at d j) ≡ true
     two_kept k j l m =
@@ -296,7 +259,6 @@ module _ (n : ℕ) (d : List ℕ) (small : n ≤ 19999) where
 
     -- what keeps the rules passes the test
     pub rules_pass : (identified d && valid (layout_in n d)) ≡ true
-    unfolding valid layout_in
     rules_pass =
         let bs = bands_of (layout_in n d) in
         let few = r.few_bands in

@@ -1,20 +1,21 @@
 -- The list of areas has every area of the layout and no other, in rising order.
-use Rattle.std.proofs.Common.{◌≡◌, ℕ, zero, suc, ◌+◌, ◌-◌, ◌*◌, ◌/◌, ◌%◌, ◌<◌, ◌≤◌, true, false, not, ◌&&◌, ◌||◌, eqb, ltb, List, [], ◌∷◌, ◌++◌, map, length, get_or, Some, None, Option, sym, refl, ap, ◌∙◌, subst, ⊎_elim, arith}
+use Rattle.std.proofs.lemmas.Grind.{common_steps}
+use Rattle.std.proofs.Common.{◌≡◌, ℕ, zero, suc, ◌+◌, ◌-◌, ◌*◌, ◌/◌, ◌%◌, ◌<◌, ◌≤◌, true, false, not, ◌&&◌, eqb, List, [], ◌∷◌, ◌++◌, map, length, get_or, Some, None, Option, sym, refl, ap, ◌∙◌, subst, ⊎_elim, arith}
 use mathlib.Core.List.Memᴰ
 use mathlib.Core.List.{Memᴰ}
-use Rattle.maps.proofs.Found.{laid, long, one_place, some_area}
+use Rattle.maps.proofs.Found.{laid, long, one_place}
 use Rattle.maps.proofs.Listed.{areas_before, as_list, before_listed, begun_alternative, begun_map, begun_none, begun_prime}
-use Rattle.maps.proofs.Standing.{Stands, each_stands, primes_inside, stands}
+use Rattle.maps.proofs.Standing.{Stands, each_stands, stands}
 use Rattle.maps.specs.Areas.{AreaTold, AreasListed, all_areas, area_from, begun, begun_in, or_else}
-use Rattle.maps.specs.Places.{InArea, band_formed, band_of, bands_of, first_home, first_of, homes_of, no_band, overflow, sectors_for, size_of, unused, valid, whole_tracks}
+use Rattle.maps.specs.Places.{InArea, band_formed, band_of, bands_of, first_home, first_of, homes_of, no_band, overflow, sectors_for, size_of, valid, whole_tracks}
 use Rattle.maps.specs.declared.areas.Area.{Area}
 use Rattle.maps.specs.declared.bands.Band.{Band}
 use Rattle.maps.specs.declared.bands.Layout.{Layout}
 use Rattle.maps.specs.declared.bands.Purpose.{Purpose}
 use Rattle.maps.specs.declared.bands.Purpose.TheVariants.{Map, Alternative, Prime}
 use Rattle.medium.specs.Order.{Rising}
-use Rattle.std.proofs.lemmas.List.{append-nil, get_or_append_left, get_or_push, get_or-take, length_push, map_push}
-use Rattle.std.proofs.lemmas.Bool.{and_from, and_parts, cases_Bool, cases_eq, cases_lt, eq-eqb, eqb-true, not_from_false, not-true}
+use Rattle.std.proofs.lemmas.List.{append-nil, map_push}
+use Rattle.std.proofs.lemmas.Bool.{and_parts, cases_Bool, cases_eq, cases_lt, eqb-true, not-true}
 
 -- the area of x for the use a begins on track t
 abbrev Starts : Band → Purpose → ℕ → Type 0
@@ -28,17 +29,11 @@ record Begun (k : ℕ) (x : Band) (t : ℕ) (r : Area) : Type 0 where
   pub starts : Starts x r.purpose t
 
 some_none : (r : Area) (o : Option Area) → o ≡ Some r → o ≡ None → ⊥
-some_none r o p q = let z : ◌≡◌ {A = ℕ} 0 1 = cc in omega arith
-
-same_some : (r s : Area) (o : Option Area) → o ≡ Some r → o ≡ Some s → r ≡ s
-same_some r s o p q = cc
+some_none r o p q = cc
 
 module _ (k : ℕ) (x : Band) (t : ℕ) where
   begun_as : (a : Purpose) (r : Area) → Starts x a t → begun_in k x t ≡ Some (area_from k x a t) → begun_in k x t ≡ Some r → Begun k x t r
-  begun_as a r s e f = subst (Begun k x t) (same_some (area_from k x a t) r (begun_in k x t) e f) (record { band = refl; first = refl; last = refl; starts = s })
-
-  prime_test : overflow x ≡ false → first_home x ≡ 32 * (t + 2) → (not (overflow x) && eqb (first_home x) (32 * (t + 2))) ≡ true
-  prime_test n e = and_from _ _ (not_from_false _ n) (eq-eqb _ _ e)
+  begun_as a r s e f = grind (arith, common_steps)
 
   in_sound : (overflow x ≡ false → 1 ≤ homes_of x) → (r : Area) → begun_in k x t ≡ Some r → Begun k x t r
   in_sound homes r f =
@@ -59,22 +54,7 @@ module _ (k : ℕ) (x : Band) (t : ℕ) where
       (cases_eq x.maps (32 * (t + 2)))
 
   in_none : (a : Purpose) → begun_in k x t ≡ None → Starts x a t → ⊥
-  in_none a f s =
-      ⊎_elim
-      (λ (m : x.maps ≡ 32 * (t + 2)). some_none _ (begun_in k x t) (begun_map k x t m) f)
-      (λ (m : x.maps ≡ 32 * (t + 2) → ⊥).
-      ⊎_elim
-      (λ (u : x.spares ≡ 32 * (t + 2)). some_none _ (begun_in k x t) (begun_alternative k x t m u) f)
-      (λ (u : x.spares ≡ 32 * (t + 2) → ⊥). third a s m u)
-      (cases_eq x.spares (32 * (t + 2))))
-      (cases_eq x.maps (32 * (t + 2)))
-    where
-      third : (b : Purpose) → Starts x b t → (x.maps ≡ 32 * (t + 2) → ⊥) → (x.spares ≡ 32 * (t + 2) → ⊥) → ⊥
-      third Map w m u = m w.0
-      third Alternative w m u = u w.0
-      third Prime w m u =
-          let h = w.1 in
-          some_none _ (begun_in k x t) (begun_prime k x t m u (prime_test (some_area x.primes h) w.0)) f
+  in_none a f s = grind (arith, common_steps)
 
 -- the area that begins on a track, over all bands
 abbrev Sound : ℕ → List Band → ℕ → Area → Type 0
@@ -107,46 +87,28 @@ all_none n (x ∷ xs) t j a f h s = by (begun_in n x t) refl f j h s (λ g i l w
 
 -- lists of numbers that rise, and one more
 rising_push : (xs : List ℕ) (y : ℕ) → Rising xs → ((k : ℕ) → k < length xs → get_or xs k 0 < y) → Rising (xs ++ y ∷ [])
-rising_push xs y rise below k h =
-    let long = length_push xs y in
-    let here = get_or_append_left xs (y ∷ []) 0 k (omega arith) in
-    ⊎_elim
-    (λ (l : k + 1 < length xs). let next = get_or_append_left xs (y ∷ []) 0 (k + 1) l in let r = rise k l in omega arith)
-    (λ (l : length xs ≤ k + 1). let next = get_or_push xs y 0 (k + 1) (omega arith) in let b = below k (omega arith) in omega arith)
-    (cases_lt (k + 1) (length xs))
+rising_push xs y rise below k h = grind (arith, common_steps)
 
 below_push : (xs : List ℕ) (y : ℕ) → ((k : ℕ) → k < length xs → get_or xs k 0 < y) → (k : ℕ) → k < length (xs ++ y ∷ []) → get_or (xs ++ y ∷ []) k 0 < suc y
-below_push xs y below k h =
-    let long = length_push xs y in
-    ⊎_elim
-    (λ (l : k < length xs). let e = get_or_append_left xs (y ∷ []) 0 k l in let b = below k l in omega arith)
-    (λ (l : length xs ≤ k). let e = get_or_push xs y 0 k (omega arith) in omega arith)
-    (cases_lt k (length xs))
+below_push xs y below k h = grind (arith, common_steps)
 
 abbrev firsts : List Area → List ℕ
 firsts rs = map (λ r. r.first) rs
 
 whole_by : (x : Band) → whole_tracks x ≡ true → (b : Purpose) → (first_of x b % 32 ≡ 0) × (size_of x b % 32 ≡ 0)
-whole_by x w Map =
-    let two = and_parts (eqb (x.maps % 32) 0 && eqb (x.spares % 32) 0) (eqb (first_home x % 32) 0 && eqb (homes_of x % 32) 0) w in
-    (eqb-true _ _ (and_parts (eqb (x.maps % 32) 0) (eqb (x.spares % 32) 0) two.0).0, refl)
-whole_by x w Alternative =
-    let two = and_parts (eqb (x.maps % 32) 0 && eqb (x.spares % 32) 0) (eqb (first_home x % 32) 0 && eqb (homes_of x % 32) 0) w in
-    (eqb-true _ _ (and_parts (eqb (x.maps % 32) 0) (eqb (x.spares % 32) 0) two.0).1, refl)
-whole_by x w Prime =
-    let two = and_parts (eqb (x.maps % 32) 0 && eqb (x.spares % 32) 0) (eqb (first_home x % 32) 0 && eqb (homes_of x % 32) 0) w in
-    let h = and_parts (eqb (first_home x % 32) 0) (eqb (homes_of x % 32) 0) two.1 in
-    (eqb-true _ _ h.0, eqb-true _ _ h.1)
+whole_by x w Map = grind (arith, common_steps)
+whole_by x w Alternative = grind (arith, common_steps)
+whole_by x w Prime = grind (arith, common_steps)
 
 -- the area of a band that stands lies within the tracks
 area_within : (end : ℕ) (x : Band) → Stands end x → (a : Purpose) → 1 ≤ size_of x a → (64 ≤ first_of x a) × (first_of x a + size_of x a ≤ end)
-area_within end x s Map h = (s.map_low, s.map_high)
-area_within end x s Alternative h = (s.spares_low, s.spares_high)
-area_within end x s Prime h = primes_inside end x s h
+area_within end x s Map h = grind (arith, common_steps)
+area_within end x s Alternative h = grind (arith, common_steps)
+area_within end x s Prime h = grind (arith, common_steps)
 
 module _ (l : Layout) (kept : valid l ≡ true) (eight : length l.bands ≡ 8) (formed : (k : ℕ) → band_formed l.count k (band_of l k) ≡ true) where
   used : (k : ℕ) → k < l.count → get_or (bands_of l) k no_band ≡ band_of l k
-  used k h = get_or-take l.count l.bands k no_band h
+  used k h = grind (arith, common_steps)
 
   homed : Homed (bands_of l)
   homed j h = (stands (sectors_for l.last) (get_or (bands_of l) j no_band) (each_stands (sectors_for l.last) (bands_of l) (laid l kept).stand j h)).primes.some_home
@@ -165,7 +127,7 @@ module _ (l : Layout) (kept : valid l ≡ true) (eight : length l.bands ≡ 8) (
           (subst Rising same p.0, subst (λ ys. (k : ℕ) → k < length ys → get_or ys k 0 < suc t) same (λ k h. let b = p.1 k h in omega arith))
 
   whole_size : (k : ℕ) (a : Purpose) → (first_of (band_of l k) a % 32 ≡ 0) × (size_of (band_of l k) a % 32 ≡ 0)
-  whole_size k a = whole_by (band_of l k) (and_parts (whole_tracks (band_of l k)) (ltb k l.count || unused (band_of l k)) (formed k)).0 a
+  whole_size k a = grind (arith, common_steps)
 
   told : (t : ℕ) (r : Area) → begun 1 (bands_of l) t ≡ Some r → AreaTold l r
   told t r e =
@@ -249,6 +211,5 @@ module _ (l : Layout) (kept : valid l ≡ true) (eight : length l.bands ≡ 8) (
       (r.0, kept_on (l.last + 1) (suc (first_of (band_of l k) a / 32 - 2)) r.0 le r.1, r.2, r.3)
 
   pub areas_listed : (rs : List Area) → rs ≡ all_areas l → AreasListed l rs
-  unfolding all_areas
   areas_listed rs e =
       subst (AreasListed l) (before_listed l (l.last + 1) ∙ sym e) (record { each = each_told (l.last + 1); every = every_listed; rising = (rise (l.last + 1)).0 })

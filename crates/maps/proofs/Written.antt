@@ -1,9 +1,10 @@
 -- The bytes that a layout is written in, and what reading them gives.
-use Rattle.std.proofs.Common.{◌≡◌, ℕ, ◌+◌, ◌-◌, ◌*◌, ◌/◌, ◌%◌, ◌<◌, ◌≤◌, true, false, cond, ◌&&◌, ◌||◌, eqb, ltb, List, map, length, get_or, Some, None, Option, is_none, Ok, sym, refl, ap, ◌∙◌, ⊎_elim, arith}
+use Rattle.std.proofs.lemmas.Grind.{common_steps}
+use Rattle.std.proofs.Common.{◌≡◌, ℕ, ◌+◌, ◌-◌, ◌*◌, ◌/◌, ◌%◌, ◌<◌, ◌≤◌, true, false, ◌&&◌, eqb, ltb, List, map, length, get_or, Some, None, Option, is_none, Ok, sym, refl, ap, ◌∙◌, ⊎_elim, arith}
 use Rattle.maps.proofs.Formed.{kept, tracks_fitting}
 use Rattle.maps.proofs.Found.{laid, last_low, long}
 use Rattle.maps.proofs.Standing.{Stands, each_stands, primes_inside, stands}
-use Rattle.maps.specs.Places.{band_formed, band_of, band_stands, bands_of, first_home, first_in, homes_of, no_band, overflow, sectors_for, size_in, unused, valid, whole_tracks}
+use Rattle.maps.specs.Places.{band_formed, band_of, band_stands, bands_of, first_home, first_in, homes_of, no_band, overflow, sectors_for, size_in, valid}
 use Rattle.maps.specs.Reading.{last_track, reading_layout}
 use Rattle.maps.specs.Sheets.{Writable, band_at, band_count, band_or_none, entry_byte, entry_numbers, first_sector, first_track, identified, layout_in, overflow_entry, prime_numbers, prime_tracks, sheet_byte, sheet_of, track_of, two_at}
 use Rattle.maps.specs.declared.bands.Band.{Band}
@@ -13,35 +14,22 @@ use Rattle.maps.specs.declared.bands.Purpose.TheVariants.{Map, Alternative, Prim
 use Rattle.std.proofs.lemmas.List.FromFn.{get_or-map-range_with_len, length-map-range_with_len}
 use Rattle.std.proofs.lemmas.List.{ext_get_or, get_or-take}
 use Rattle.std.specs.List.{range_with_len}
-use Rattle.std.proofs.lemmas.Bool.{and_from, and_parts, both_ways, cases_Bool, cases_lt, cond-false, cond-true, eq-eqb, eqb-true, false≢true, true≢false, le-ltb, lt-ltb, ne_eqb, or_cases}
+use Rattle.std.proofs.lemmas.Bool.{and_from, cases_Bool, cases_lt, cond-false, cond-true, eq-eqb, le-ltb, lt-ltb, ne_eqb}
 
 -- a prime area that is there or not
 none_there : (o : Option Extent) → is_none o ≡ true → o ≡ None
-none_there None t = refl
-none_there (Some e) t = absurd (false≢true t)
+none_there None t = grind (arith, common_steps)
+none_there (Some e) t = grind (arith, common_steps)
 
 some_there : (o : Option Extent) → is_none o ≡ false → o ≡ Some (record { first = first_in o; size = size_in o })
-some_there None t = absurd (true≢false t)
-some_there (Some e) t = refl
-
--- the bytes of a sheet, by their place
-pub byte_identifier : (l : Layout) (i : ℕ) → i < 2 → sheet_byte l i ≡ 0
-unfolding sheet_byte
-byte_identifier l i h = cond-true (ltb i 2) _ _ (lt-ltb _ _ h)
+some_there None t = grind (arith, common_steps)
+some_there (Some e) t = grind (arith, common_steps)
 
 pub byte_count : (l : Layout) (i : ℕ) → i ≡ 2 → sheet_byte l i ≡ l.count
-unfolding sheet_byte
-byte_count l i e = cond-false (ltb i 2) _ _ (le-ltb _ _ (omega arith)) ∙ cond-true (eqb i 2) _ _ (eq-eqb _ _ e)
-
-later_byte : (l : Layout) (i : ℕ) → 3 ≤ i → sheet_byte l i ≡ cond (ltb ((i - 3) / 8) l.count) (entry_byte (band_of l ((i - 3) / 8)) ((i - 3) % 8)) 255
-unfolding sheet_byte
-later_byte l i h = cond-false (ltb i 2) _ _ (le-ltb _ _ (omega arith)) ∙ cond-false (eqb i 2) _ _ (ne_eqb _ _ (λ z. omega arith))
+byte_count l i e = grind (arith, common_steps)
 
 pub byte_entry : (l : Layout) (i : ℕ) → 3 ≤ i → (i - 3) / 8 < l.count → sheet_byte l i ≡ entry_byte (band_of l ((i - 3) / 8)) ((i - 3) % 8)
-byte_entry l i h m = later_byte l i h ∙ cond-true (ltb ((i - 3) / 8) l.count) _ _ (lt-ltb _ _ m)
-
-pub byte_filler : (l : Layout) (i : ℕ) → 3 ≤ i → l.count ≤ (i - 3) / 8 → sheet_byte l i ≡ 255
-byte_filler l i h m = later_byte l i h ∙ cond-false (ltb ((i - 3) / 8) l.count) _ _ (le-ltb _ _ m)
+byte_entry l i h m = grind (arith, common_steps)
 
 module _ (l : Layout) (kept : valid l ≡ true) (eight : length l.bands ≡ 8) where
   end_small : sectors_for l.last ≤ 640064
@@ -74,20 +62,14 @@ module _ (l : Layout) (kept : valid l ≡ true) (eight : length l.bands ≡ 8) w
 
 -- a number's two bytes, and the number again
 half_high : (x : Band) (i : ℕ) → entry_byte x (2 * i) ≡ get_or (entry_numbers x) i 0 / 256
-half_high x i =
-    let even : 2 * i % 2 ≡ 0 = omega arith in
-    let half : 2 * i / 2 ≡ i = omega arith in
-    cond-true (eqb (2 * i % 2) 0) _ _ (eq-eqb _ _ even) ∙ ap (λ n. get_or (entry_numbers x) n 0 / 256) half
+half_high x i = grind (arith, common_steps)
 
 half_low : (x : Band) (i : ℕ) → entry_byte x (2 * i + 1) ≡ get_or (entry_numbers x) i 0 % 256
-half_low x i =
-    let odd : (2 * i + 1) % 2 ≡ 0 → ⊥ = λ e. omega arith in
-    let half : (2 * i + 1) / 2 ≡ i = omega arith in
-    cond-false (eqb ((2 * i + 1) % 2) 0) _ _ (ne_eqb _ _ odd) ∙ ap (λ n. get_or (entry_numbers x) n 0 % 256) half
+half_low x i = grind (arith, common_steps)
 
 -- the first sector of a track, and the sector again
 first_back : (s : ℕ) → 64 ≤ s → s % 32 ≡ 0 → first_sector (track_of s) ≡ s
-first_back s low whole = omega arith
+first_back s low whole = grind (arith, common_steps)
 
 -- bands with the same parts, and layouts
 same_parts : (m s : ℕ) (o : Option Extent) (m' s' : ℕ) (o' : Option Extent) → m ≡ m' → s ≡ s' → o ≡ o' → ◌≡◌ {A = Band} (record { maps = m; spares = s; primes = o }) (record { maps = m'; spares = s'; primes = o' })
@@ -120,7 +102,6 @@ module _ (l : Layout) (kept : valid l ≡ true) (eight : length l.bands ≡ 8) (
       omega arith
 
   tracks_back : (k : ℕ) → k < l.count → (first_track d k Map ≡ track_of (band_of l k).maps) × (first_track d k Alternative ≡ track_of (band_of l k).spares) × (first_track d k Prime ≡ get_or (prime_numbers (band_of l k).primes) 0 0) × (prime_tracks d k ≡ get_or (prime_numbers (band_of l k).primes) 1 0)
-  unfolding first_track prime_tracks
   tracks_back k h =
       (number_back k 0 (8 * k + 3) h (omega arith) (omega arith), number_back k 1 (8 * k + 5) h (omega arith) (omega arith), number_back k 2 (8 * k + 7) h (omega arith) (omega arith), number_back k 3 (8 * k + 9) h (omega arith) (omega arith))
 
@@ -129,12 +110,7 @@ module _ (l : Layout) (kept : valid l ≡ true) (eight : length l.bands ≡ 8) (
     x = band_of l k
 
     whole : (x.maps % 32 ≡ 0) × (x.spares % 32 ≡ 0) × (first_home x % 32 ≡ 0) × (homes_of x % 32 ≡ 0)
-    whole =
-        let w = (and_parts (whole_tracks x) (ltb k l.count || unused x) (formed k)).0 in
-        let two = and_parts (eqb (x.maps % 32) 0 && eqb (x.spares % 32) 0) (eqb (first_home x % 32) 0 && eqb (homes_of x % 32) 0) w in
-        let a = and_parts (eqb (x.maps % 32) 0) (eqb (x.spares % 32) 0) two.0 in
-        let b = and_parts (eqb (first_home x % 32) 0) (eqb (homes_of x % 32) 0) two.1 in
-        (eqb-true _ _ a.0, eqb-true _ _ a.1, eqb-true _ _ b.0, eqb-true _ _ b.1)
+    whole = grind (arith, common_steps)
 
     maps_back : first_sector (first_track d k Map) ≡ x.maps
     maps_back = let w = writable l kept eight k h in ap first_sector (tracks_back k h).0 ∙ first_back x.maps w.map_low whole.0
@@ -146,7 +122,6 @@ module _ (l : Layout) (kept : valid l ≡ true) (eight : length l.bands ≡ 8) (
     same_band o e = same_parts _ _ o x.maps x.spares x.primes maps_back spares_back e
 
     band_none : overflow x ≡ true → band_at d k ≡ x
-    unfolding band_at overflow_entry
     band_none o =
         let t = tracks_back k h in
         let none = none_there x.primes o in
@@ -156,7 +131,6 @@ module _ (l : Layout) (kept : valid l ≡ true) (eight : length l.bands ≡ 8) (
         same_band _ (cond-true (overflow_entry d k) _ _ over ∙ sym none)
 
     band_some : overflow x ≡ false → band_at d k ≡ x
-    unfolding band_at overflow_entry
     band_some o =
         let t = tracks_back k h in
         let w = writable l kept eight k h in
@@ -175,13 +149,7 @@ module _ (l : Layout) (kept : valid l ≡ true) (eight : length l.bands ≡ 8) (
     band_back = ⊎_elim band_none band_some (cases_Bool (overflow x))
 
   none_back : (k : ℕ) → l.count ≤ k → no_band ≡ band_of l k
-  none_back k h =
-      let f = (and_parts (whole_tracks (band_of l k)) (ltb k l.count || unused (band_of l k)) (formed k)).1 in
-      let u : unused (band_of l k) ≡ true = ⊎_elim (λ t. absurd (both_ways _ (le-ltb _ _ h) t)) (λ t. t) (or_cases (ltb k l.count) (unused (band_of l k)) f) in
-      let y = band_of l k in
-      let two = and_parts (eqb y.maps 0 && eqb y.spares 0) (overflow y) u in
-      let a = and_parts (eqb y.maps 0) (eqb y.spares 0) two.0 in
-      sym (same_parts y.maps y.spares y.primes 0 0 None (eqb-true _ _ a.0) (eqb-true _ _ a.1) (none_there y.primes two.1))
+  none_back k h = grind (arith, common_steps)
 
   count_back : band_count d ≡ l.count
   count_back = bytes 2 (omega arith) ∙ byte_count l 2 refl
@@ -196,7 +164,6 @@ module _ (l : Layout) (kept : valid l ≡ true) (eight : length l.bands ≡ 8) (
 
   -- the bytes give the layout
   pub layout_back : layout_in l.last d ≡ l
-  unfolding layout_in
   layout_back =
       let e = count_back in
       let bands : map (band_or_none d) (range_with_len 0 8) ≡ l.bands =
@@ -205,11 +172,10 @@ module _ (l : Layout) (kept : valid l ≡ true) (eight : length l.bands ≡ 8) (
       same_layout l.last (band_count d) (map (band_or_none d) (range_with_len 0 8)) l.count l.bands e bands
 
   pub identified_back : identified d ≡ true
-  identified_back = and_from _ _ (eq-eqb _ _ (bytes 0 (omega arith) ∙ byte_identifier l 0 (omega arith))) (eq-eqb _ _ (bytes 1 (omega arith) ∙ byte_identifier l 1 (omega arith)))
+  identified_back = grind (arith, common_steps)
 
 -- reading the bytes of a layout, for as many sectors, gives that layout
 pub read_back : (l : Layout) → valid l ≡ true → length l.bands ≡ 8 → ((k : ℕ) → band_formed l.count k (band_of l k) ≡ true) → (d : List ℕ) → d ≡ sheet_of l → reading_layout (sectors_for l.last) d ≡ Ok l
-unfolding sheet_of
 read_back l v eight formed d e =
     let bytes : (i : ℕ) → i < 512 → get_or d i 0 ≡ sheet_byte l i = λ i h. ap (λ xs. get_or xs i 0) e ∙ get_or-map-range_with_len (sheet_byte l) 0 512 i i 0 h (omega arith) in
     let low = last_low l v in

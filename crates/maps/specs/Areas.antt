@@ -19,7 +19,7 @@ area_of k a t n = record { first = t; last = t + (n - 1) / 32; band = k; purpose
 abbrev pub area_from : ℕ → Band → Purpose → ℕ → Area
 area_from k x a t = area_of k a t (size_of x a)
 
-unfoldable pub begun_in : ℕ → Band → ℕ → Option Area
+abbrev pub begun_in : ℕ → Band → ℕ → Option Area
 begun_in k x t =
     cond (x.maps == first_sector t) (Some (area_from k x Map t))
     (cond (x.spares == first_sector t) (Some (area_from k x Alternative t))
@@ -35,7 +35,7 @@ begun k [] t = None
 begun k (x ∷ xs) t = or_else (begun_in k x t) (begun (k + 1) xs t)
 
 -- all areas of a layout, track by track
-unfoldable pub all_areas : Layout → List Area
+abbrev pub all_areas : Layout → List Area
 all_areas l = filter_map (begun 1 (bands_of l)) (range_with_len 0 (l.last + 1))
 
 -- an area of the layout, told by its band, its use, and its first and last track

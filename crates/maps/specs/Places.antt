@@ -64,10 +64,10 @@ home_in [] b = 0
 home_in (x ∷ xs) b = cond (nat_lt b (homes_of x)) (first_home x + b) (home_in xs (b - homes_of x))
 
 -- how many blocks a layout has, and the home of block b
-unfoldable pub blocks : Layout → ℕ
+abbrev pub blocks : Layout → ℕ
 blocks l = block_count (bands_of l)
 
-unfoldable pub home : Layout → ℕ → ℕ
+abbrev pub home : Layout → ℕ → ℕ
 home l b = home_in (bands_of l) b
 
 -- m sectors from a on and n from c on have none in common
@@ -121,7 +121,7 @@ abbrev pub sectors_for : ℕ → ℕ
 sectors_for n = 32 * (n + 3)
 
 -- a layout of this format: the last track, the number of bands, a home at least, and the areas
-unfoldable pub valid : Layout → Bool
+abbrev pub valid : Layout → Bool
 valid l =
     (nat_le 8 l.last && nat_le l.last 19999)
     && ((nat_le 1 l.count && nat_le l.count 8)

@@ -25,7 +25,7 @@ abbrev pub given_layout : ℕ → List ℕ → Result Layout Fault
 given_layout n d = checked (identified d && valid (layout_in n d)) (layout_in n d)
 
 -- the number of sectors is tried first, and then the rules
-unfoldable pub reading_layout : ℕ → List ℕ → Result Layout Fault
+abbrev pub reading_layout : ℕ → List ℕ → Result Layout Fault
 reading_layout p d = cond (fits_format p) (given_layout (last_track p) d) (Err (format_fault WrongSectorCount 0))
 
 -- the same in words: n is the last track of a medium of p sectors

@@ -26,15 +26,15 @@ track_place Map = 3
 track_place Alternative = 5
 track_place Prime = 7
 
-unfoldable pub first_track : List ℕ → ℕ → Purpose → ℕ
+abbrev pub first_track : List ℕ → ℕ → Purpose → ℕ
 first_track d k a = two_at d (8 * k + track_place a)
 
 -- and the number of prime tracks
-unfoldable pub prime_tracks : List ℕ → ℕ → ℕ
+abbrev pub prime_tracks : List ℕ → ℕ → ℕ
 prime_tracks d k = two_at d (8 * k + 9)
 
 -- in an overflow band the last two numbers are (FF FF)
-unfoldable pub overflow_entry : List ℕ → ℕ → Bool
+abbrev pub overflow_entry : List ℕ → ℕ → Bool
 overflow_entry d k = first_track d k Prime == 65535 && prime_tracks d k == 65535
 
 -- the first sector of a track; a track that no medium has begins behind the last sector of any
@@ -45,7 +45,7 @@ first_sector t = 32 * (t + 2)
 abbrev pub primes_at : List ℕ → ℕ → Extent
 primes_at d k = record { first = first_sector (first_track d k Prime); size = 32 * prime_tracks d k }
 
-unfoldable pub band_at : List ℕ → ℕ → Band
+abbrev pub band_at : List ℕ → ℕ → Band
 band_at d k =
     record {
       maps = first_sector (first_track d k Map);
@@ -58,7 +58,7 @@ abbrev pub band_or_none : List ℕ → ℕ → Band
 band_or_none d k = cond (nat_lt k (band_count d)) (band_at d k) no_band
 
 -- the layout that the bytes d give to a medium whose last track is n
-unfoldable pub layout_in : ℕ → List ℕ → Layout
+abbrev pub layout_in : ℕ → List ℕ → Layout
 layout_in n d = record { last = n; count = band_count d; bands = map (band_or_none d) (range_with_len 0 8) }
 
 -- the track that begins with sector s
@@ -78,14 +78,14 @@ abbrev pub entry_byte : Band → ℕ → ℕ
 entry_byte x j = let n = slice_index (entry_numbers x) (j / 2) in cond (j % 2 == 0) (n / 256) (n % 256)
 
 -- byte i of the sheet that a layout is written in: (00) (00), the number of bands, the bands, and then (FF)
-unfoldable pub sheet_byte : Layout → ℕ → ℕ
+abbrev pub sheet_byte : Layout → ℕ → ℕ
 sheet_byte l i =
     cond (nat_lt i 2) 0
     (cond (i == 2) l.count
     (cond (nat_lt ((i - 3) / 8) l.count) (entry_byte (band_of l ((i - 3) / 8)) ((i - 3) % 8)) 255))
 
 -- the sheet that a layout is written in
-unfoldable pub sheet_of : Layout → List ℕ
+abbrev pub sheet_of : Layout → List ℕ
 sheet_of l = map (sheet_byte l) (range_with_len 0 512)
 
 -- what is known of a band whose entry can be written

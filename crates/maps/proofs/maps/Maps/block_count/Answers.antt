@@ -1,6 +1,6 @@
-use Rattle.std.proofs.Common.{◌≡◌, ◌≤◌, length, ap, ◌∙◌, arith}
+use Rattle.std.proofs.Common.{◌≡◌, ◌≤◌, length, ap, arith}
 use Rattle.maps.proofs.Found.{blocks_few, homes_placed}
-use Rattle.maps.specs.Places.{bands_of, block_count, blocks}
+use Rattle.maps.specs.Places.{bands_of, block_count}
 use Rattle.maps.proofs.maps.Maps.block_count.Goals as goal
 
 pub overflow_cast-result : goal.overflow_cast-result
@@ -11,9 +11,8 @@ overflow_cast-result c =
     let small = blocks_few m.layout m.kept few in
     omega (arith, ap block_count same)
 
-pub returns : goal.returns
-unfolding blocks
-returns c =
+pub returns-clause-homes : goal.returns-clause-homes
+returns-clause-homes c =
     let m = c.args.self.now in
     let eight : length m.layout.bands ≡ 8 = omega arith in
-    record { count = c.homes_in.ensures ∙ ap block_count c.bands.ensures.bands; homes = homes_placed m.layout m.kept eight }
+    homes_placed m.layout m.kept eight

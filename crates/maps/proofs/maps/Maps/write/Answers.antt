@@ -5,7 +5,6 @@ use Rattle.maps.specs.Sheets.{sheet_byte, sheet_of}
 use Rattle.maps.proofs.maps.Maps.write.Goals as goal
 
 pub returns : goal.returns
-unfolding sheet_of
 returns c =
     let m = c.args.self.now in
     let eight : length m.layout.bands ≡ 8 = omega arith in
