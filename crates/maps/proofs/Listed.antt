@@ -1,8 +1,8 @@
 -- The listing of areas, step by step.
 use Rattle.std.proofs.lemmas.Grind.{common_steps}
 use Rattle.std.proofs.Common.{◌≡◌, ℕ, zero, suc, ◌+◌, ◌*◌, ◌<◌, true, false, not, ◌&&◌, eqb, List, [], ◌∷◌, ◌++◌, length, get_or, Some, None, Option, sym, refl, ap, ◌∙◌, arith}
-use Rattle.maps.specs.Areas.{area_from, begun, begun_in, or_else}
-use Rattle.std.specs.Option.{MatchOption}
+use Rattle.maps.specs.Areas.{area_from, begun, begun_in}
+use Rattle.std.specs.Option.{MatchOption, option_or}
 use Rattle.std.specs.List.{cons_option, filter_map, range_with_len}
 use Rattle.maps.specs.Places.{bands_of, first_home, no_band, overflow}
 use Rattle.maps.specs.declared.areas.Area.{Area}
@@ -34,7 +34,7 @@ BegunFirst n bs t r =
     (λ a. (i : ℕ) × (i < length bs) × (begun_in (i + n) (get_or bs i no_band) t ≡ Some a) × ((k : ℕ) → k < i → begun_in (k + n) (get_or bs k no_band) t ≡ None))
 
 module _ (x : Band) (xs : List Band) (n t : ℕ) where
-  begun_here : (o : Option Area) → begun_in (0 + n) x t ≡ o → begun n (x ∷ xs) t ≡ or_else o (begun (n + 1) xs t)
+  begun_here : (o : Option Area) → begun_in (0 + n) x t ≡ o → begun n (x ∷ xs) t ≡ option_or o (begun (n + 1) xs t)
   begun_here o e = grind (arith, common_steps)
 
   begun_later : (k : ℕ) (o : Option Area) → begun_in (suc k + n) (get_or xs k no_band) t ≡ o → begun_in (k + (n + 1)) (get_or xs k no_band) t ≡ o

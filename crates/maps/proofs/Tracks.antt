@@ -6,7 +6,8 @@ use mathlib.Core.List.{Memᴰ}
 use Rattle.maps.proofs.Found.{laid, long, one_place}
 use Rattle.maps.proofs.Listed.{areas_before, as_list, before_listed, begun_alternative, begun_map, begun_none, begun_prime}
 use Rattle.maps.proofs.Standing.{Stands, each_stands, stands}
-use Rattle.maps.specs.Areas.{AreaTold, AreasListed, all_areas, area_from, begun, begun_in, or_else}
+use Rattle.std.specs.Option.{option_or}
+use Rattle.maps.specs.Areas.{AreaTold, AreasListed, all_areas, area_from, begun, begun_in}
 use Rattle.maps.specs.Places.{InArea, band_formed, band_of, bands_of, first_home, first_of, homes_of, no_band, overflow, sectors_for, size_of, valid, whole_tracks}
 use Rattle.maps.specs.declared.areas.Area.{Area}
 use Rattle.maps.specs.declared.bands.Band.{Band}
@@ -68,7 +69,7 @@ all_sound : (n : ℕ) (bs : List Band) → Homed bs → (t : ℕ) (r : Area) →
 all_sound n [] homed t r f = absurd (some_none r None f refl)
 all_sound n (x ∷ xs) homed t r f = by (begun_in n x t) refl f (λ g. all_sound (n + 1) xs (λ j h. homed (suc j) (omega arith)) t r g)
   where
-    by : (o : Option Area) → begun_in n x t ≡ o → or_else o (begun (n + 1) xs t) ≡ Some r → (begun (n + 1) xs t ≡ Some r → Sound (n + 1) xs t r) → Sound n (x ∷ xs) t r
+    by : (o : Option Area) → begun_in n x t ≡ o → option_or o (begun (n + 1) xs t) ≡ Some r → (begun (n + 1) xs t ≡ Some r → Sound (n + 1) xs t r) → Sound n (x ∷ xs) t r
     by (Some a) e g more = let z : n ≡ n + 0 = omega arith in (0, omega arith, subst (λ i. Begun i x t r) z (in_sound n x t (homed 0 (omega arith)) r (e ∙ g)))
     by None e g more =
         let m = more g in
@@ -80,7 +81,7 @@ all_none : (n : ℕ) (bs : List Band) (t j : ℕ) (a : Purpose) → begun n bs t
 all_none n [] t j a f h s = absurd (omega arith)
 all_none n (x ∷ xs) t j a f h s = by (begun_in n x t) refl f j h s (λ g i l w. all_none (n + 1) xs t i a g l w)
   where
-    by : (o : Option Area) → begun_in n x t ≡ o → or_else o (begun (n + 1) xs t) ≡ None → (j : ℕ) → j < length (x ∷ xs) → Starts (get_or (x ∷ xs) j no_band) a t → (begun (n + 1) xs t ≡ None → (i : ℕ) → i < length xs → Starts (get_or xs i no_band) a t → ⊥) → ⊥
+    by : (o : Option Area) → begun_in n x t ≡ o → option_or o (begun (n + 1) xs t) ≡ None → (j : ℕ) → j < length (x ∷ xs) → Starts (get_or (x ∷ xs) j no_band) a t → (begun (n + 1) xs t ≡ None → (i : ℕ) → i < length xs → Starts (get_or xs i no_band) a t → ⊥) → ⊥
     by (Some b) e g j h s more = some_none b (Some b) refl g
     by None e g zero h s more = in_none n x t a e s
     by None e g (suc j) h s more = more g j (omega arith) s

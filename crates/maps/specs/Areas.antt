@@ -1,6 +1,7 @@
 -- The areas of a layout, in rising order of tracks.
 use Rattle.std.specs.Prelude.{◌≡◌, ℕ, ◌+◌, ◌-◌, ◌*◌, ◌/◌, ◌<◌, ◌≤◌, cond, not, ◌&&◌, List, [], ◌∷◌, map, Some, None, Option, ◌==◌}
 use Rattle.std.specs.List.{filter_map, range_with_len}
+use Rattle.std.specs.Option.{option_or}
 use mathlib.Core.List.{Memᴰ}
 use Rattle.maps.specs.Places.{band_of, bands_of, first_home, first_of, overflow, size_of}
 use Rattle.maps.specs.Sheets.{first_sector}
@@ -25,14 +26,10 @@ begun_in k x t =
     (cond (x.spares == first_sector t) (Some (area_from k x Alternative t))
     (cond (not (overflow x) && first_home x == first_sector t) (Some (area_from k x Prime t)) None))
 
-abbrev pub or_else : Option Area → Option Area → Option Area
-or_else (Some a) o = Some a
-or_else None o = o
-
 -- the area that begins on track t, of the bands from number k on
 abbrev pub begun : ℕ → List Band → ℕ → Option Area
 begun k [] t = None
-begun k (x ∷ xs) t = or_else (begun_in k x t) (begun (k + 1) xs t)
+begun k (x ∷ xs) t = option_or (begun_in k x t) (begun (k + 1) xs t)
 
 -- all areas of a layout, track by track
 abbrev pub all_areas : Layout → List Area
