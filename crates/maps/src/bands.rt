@@ -44,7 +44,7 @@ pub struct Band {
 }
 
 // The last track of the medium, and its bands. Behind the first `count` stands `NO_BAND`.
-// An array and a count, since a sheet is read without a heap, and no list of the kit on the stack is copied.
+// An array and a count: reading takes no heap, and the kit's `ArrayVec` is not `Copy`, as a layout is.
 #[derive(Clone, Copy, PartialEq, Eq, Debug)]
 pub struct Layout {
     pub last: u16,
