@@ -100,13 +100,20 @@ fn last_free_slot(rt: HostRuntime) -> Result<(), Fail> {
     assert_eq!(rt; first_byte(&roll, 0), Ok((Reading::Sound, 7)));
     assert_eq!(rt; first_byte(&roll, 1), Ok((Reading::Spoiled, 0)));
     assert_eq!(rt; first_byte(&roll, 2), Ok((Reading::Blank, 0)));
-    assert_eq!(rt; burn_of(&mut roll, 0), Err(Layer::Medium.refuses(Refusal::AlreadyBurnt, 0)));
+    assert_eq!(rt;
+        burn_of(&mut roll, 0),
+        Err(Layer::Medium.refuses(Refusal::AlreadyBurnt, 0))
+    );
     assert_eq!(rt;
         burn_of(&mut roll, 2),
         Ok(Verdict::Sound),
         "the last free slot"
     );
     assert_eq!(rt; first_byte(&roll, 2), Ok((Reading::Sound, 9)));
-    assert_eq!(rt; burn_of(&mut roll, 2), Err(Layer::Medium.refuses(Refusal::AlreadyBurnt, 2)), "a full roll");
+    assert_eq!(rt;
+        burn_of(&mut roll, 2),
+        Err(Layer::Medium.refuses(Refusal::AlreadyBurnt, 2)),
+        "a full roll"
+    );
     Ok(())
 }

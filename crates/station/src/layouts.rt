@@ -1,7 +1,7 @@
 // One layout of each format, by its areas in rising order, as a person would want to see them.
 use anyhow::anyhow;
 use format::{Address, address_of};
-use maps::{Maps, Purpose as BandPurpose};
+use maps::Maps;
 use pointers::Pointers;
 
 // Ten tracks of 31 sectors.
@@ -57,19 +57,11 @@ fn print_maps(rt: &HostRuntime) -> anyhow::Result<()> {
     for area in layout.areas(rt.alloc())?.iter() {
         let first = area.first;
         let last = area.last;
-        let used = word(area.purpose);
+        let used = area.purpose;
         let band = area.band;
         println!(rt; "  tracks {first} to {last}: {used} area of band {band}")?;
     }
     Ok(())
-}
-
-fn word(purpose: BandPurpose) -> &'static str {
-    match purpose {
-        BandPurpose::Map => "map",
-        BandPurpose::Alternative => "alternative",
-        BandPurpose::Prime => "prime",
-    }
 }
 
 // A sector of Format A as track and place.
