@@ -6,7 +6,8 @@ use crate::compare::{ReadBack, read_back};
 use medium::{Burn, Fault, Medium, Verdict, burn_all};
 use std::alloc::{AllocError, Global};
 
-// What each burn of the list answered, and what was then read where it was asked for.
+// What each burn of the list answered, and what was then read where it was asked for. Two lists, since all burns are
+// asked for before the first reading, and a list of pairs would want memory once more.
 #[derive(Drop)]
 pub struct Account {
     pub burnt: Vec<Result<Verdict, Fault>>,

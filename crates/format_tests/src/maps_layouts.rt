@@ -1,5 +1,5 @@
 // Format B: which layouts are read, and where their areas and blocks lie.
-use maps::{Maps, Purpose};
+use maps::{Maps, Purpose, SHEET_BYTES};
 use std::alloc::{AllocError, Global};
 use std::test::Fail;
 
@@ -38,9 +38,9 @@ fn sheet(heap: Global, count: u8, entries: &[Entry]) -> Result<Vec<u8>, AllocErr
 
 // The number of the refusal that a sheet gets on a medium of so many sectors, or 0; 255 if it has not 512 bytes.
 fn refusal_for(sectors: u32, sheet: &[u8]) -> u8 {
-    if sheet.len() != 512 {
+    let Ok(sheet) = <&[u8; SHEET_BYTES]>::try_from(sheet) else {
         return 255;
-    }
+    };
     match Maps::read(sectors, sheet) {
         Ok(_) => 0,
         Err(fault) => u8::from(fault.refusal),
@@ -180,8 +180,10 @@ const FULL_AREAS: [(u32, u32, u8, Purpose); 14] = [
 fn full_size(rt: HostRuntime) -> Result<(), Fail> {
     let heap = rt.alloc();
     let sheet = sheet(heap, 5, &FULL)?;
-    assert!(rt; sheet.len() == 512);
-    let Ok(layout) = Maps::read(640_064, sheet.as_slice()) else {
+    let Ok(sheet) = <&[u8; SHEET_BYTES]>::try_from(sheet.as_slice()) else {
+        return Err(Fail::new("the sheet has not 512 bytes"));
+    };
+    let Ok(layout) = Maps::read(640_064, sheet) else {
         return Err(Fail::new("the full-size layout was refused"));
     };
     assert_eq!(rt; layout.block_count(), 4 * 4990 * 32);
@@ -199,8 +201,10 @@ fn full_size(rt: HostRuntime) -> Result<(), Fail> {
 #[test]
 fn example(rt: HostRuntime) -> Result<(), Fail> {
     let sheet = sheet(rt.alloc(), 2, &EXAMPLE)?;
-    assert!(rt; sheet.len() == 512);
-    let Ok(layout) = Maps::read(EXAMPLE_SECTORS, sheet.as_slice()) else {
+    let Ok(sheet) = <&[u8; SHEET_BYTES]>::try_from(sheet.as_slice()) else {
+        return Err(Fail::new("the sheet has not 512 bytes"));
+    };
+    let Ok(layout) = Maps::read(EXAMPLE_SECTORS, sheet) else {
         return Err(Fail::new("the example was refused"));
     };
     assert!(rt; layout.block_count() == 128);

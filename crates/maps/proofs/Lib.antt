@@ -6,3 +6,4 @@ mod Found
 mod Written
 mod Listed
 mod Tracks
+mod Made

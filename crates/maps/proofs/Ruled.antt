@@ -1,47 +1,31 @@
 -- The test of a layout decides the rules.
-use Rattle.std.proofs.Common.{◌≡◌, ℕ, ◌+◌, ◌-◌, ◌*◌, ◌<◌, ◌≤◌, true, false, cond, ◌&&◌, eqb, ltb, leb, List, get_or, sym, refl, ap, ◌∙◌, subst, ⊎_elim, arith}
+use Rattle.std.proofs.lemmas.Grind.{common_steps}
+use Rattle.std.proofs.Common.{◌≡◌, ℕ, ◌+◌, ◌-◌, ◌*◌, ◌<◌, ◌≤◌, max, true, false, ◌&&◌, eqb, ltb, leb, List, get_or, Some, None, is_none, sym, refl, ap, ◌∙◌, subst, ⊎_elim, arith}
 use Rattle.maps.proofs.Formed.{band_used, used_many}
-use Rattle.maps.proofs.Standing.{Stands, all_stand, apart_by, each_stands, homes_within, one_area, pair_from, pair_rises, pair_separate, primes_inside, some_home, stands, two_apart}
-use Rattle.maps.specs.Places.{InArea, apart, band_stands, bands_apart, bands_of, bands_stand, block_count, first_of, inside, no_band, overflow, rises_to, sectors_for, size_of, valid}
+use Rattle.maps.proofs.Standing.{Stands, all_stand, apart_by, each_stands, homes_within, one_area, pair_from, pair_rises, pair_separate, primes_inside, primes_pass, some_home, stands, two_apart}
+use Rattle.maps.specs.Places.{InArea, apart, band_stands, bands_apart, bands_of, bands_stand, block_count, first_home, first_in, first_of, homes_of, inside, no_band, overflow, rises_to, sectors_for, size_in, size_of, valid}
 use Rattle.maps.specs.Rules.{HasPrime, LayoutRules, LiesIn, tracks_of}
-use Rattle.maps.specs.Sheets.{band_at, band_count, first_sector, first_track, identified, layout_in, overflow_entry, prime_tracks}
+use Rattle.maps.specs.Sheets.{band_at, band_count, first_sector, first_track, identified, layout_in, overflow_entry, prime_tracks, primes_at}
 use Rattle.maps.specs.declared.bands.Purpose.{Purpose}
 use Rattle.maps.specs.declared.bands.Purpose.TheVariants.{Map, Alternative, Prime}
-use Rattle.std.proofs.lemmas.Bool.{and_from, and_parts, both_ways, cases_Bool, cases_lt, cases_order, cond_both, cond-false, cond-true, eq-eqb, eqb-true, le-leb, leb-true, lt-ltb, ltb-true, ne_eqb, or_cases, or_left, or_right}
+use Rattle.std.proofs.lemmas.Bool.{and_from, and_parts, both_ways, cases_Bool, cases_lt, cases_order, cond-false, cond-true, eq-eqb, eqb-true, le-leb, leb-true, lt-ltb, ltb-true, or_cases, or_left, or_right}
 
--- the first sector of a track that a medium may have, and of one that it may not
+-- the first sector of a track that a medium may have
 first_near : (t : ℕ) → t ≤ 19999 → first_sector t ≡ 32 * (t + 2)
-unfolding first_sector
-first_near t h = cond-true (leb t 19999) _ _ (le-leb _ _ h)
+first_near t h = grind (arith, common_steps)
 
 first_low : (t s : ℕ) → first_sector t + s ≤ 640064 → 1 ≤ s → t ≤ 19999
-unfolding first_sector
-first_low t s h k =
-    ⊎_elim (λ u. leb-true _ _ u) (λ u. absurd (let e : first_sector t ≡ 640064 = cond-false (leb t 19999) _ _ u in omega arith)) (cases_Bool (leb t 19999))
-
-first_some : (t : ℕ) → 64 ≤ first_sector t
-unfolding first_sector
-first_some t = cond_both (leb t 19999) (32 * (t + 2)) 640064 (λ s. 64 ≤ s) (λ _. omega arith) (λ _. omega arith)
+first_low t s h k = grind (arith, common_steps)
 
 -- the tests of two areas and of one, from what they say
 before : (a m c n : ℕ) → a + m ≤ c → apart a m c n ≡ true
-before a m c n h = or_left (leb (a + m) c) (leb (c + n) a) (le-leb (a + m) c h)
+before a m c n h = grind (arith, common_steps)
 
 behind : (a m c n : ℕ) → c + n ≤ a → apart a m c n ≡ true
-behind a m c n h = or_right (leb (a + m) c) (leb (c + n) a) (le-leb (c + n) a h)
+behind a m c n h = grind (arith, common_steps)
 
 within_tracks : (end a k : ℕ) → 64 ≤ a → a + k ≤ end → inside end a k ≡ true
-within_tracks end a k l h = and_from (leb 64 a) (leb (a + k) end) (le-leb 64 a l) (le-leb (a + k) end h)
-
--- the three uses differ
-map_alternative : Map ≡ Alternative → ⊥
-map_alternative e = let z : ◌≡◌ {A = ℕ} 0 1 = cc in omega arith
-
-map_prime : Map ≡ Prime → ⊥
-map_prime e = let z : ◌≡◌ {A = ℕ} 0 1 = cc in omega arith
-
-alternative_prime : Alternative ≡ Prime → ⊥
-alternative_prime e = let z : ◌≡◌ {A = ℕ} 0 1 = cc in omega arith
+within_tracks end a k l h = grind (arith, common_steps)
 
 module _ (n : ℕ) (d : List ℕ) (small : n ≤ 19999) where
   -- the area of band k for the use a, in sectors and in tracks
@@ -50,24 +34,25 @@ module _ (n : ℕ) (d : List ℕ) (small : n ≤ 19999) where
     pub size : size_of (band_at d k) a ≡ 32 * tracks_of d k a
     pub end : first_track d k a + tracks_of d k a ≤ n + 1
 
-  prime_first : (k : ℕ) → overflow_entry d k ≡ false → (band_at d k).first ≡ first_sector (first_track d k Prime)
-  unfolding band_at
-  prime_first k e = cond-false (overflow_entry d k) _ _ e
+  pub no_primes : (k : ℕ) → overflow_entry d k ≡ true → (band_at d k).primes ≡ None
+  no_primes k e = cond-true (overflow_entry d k) _ _ e
 
-  prime_homes : (k : ℕ) → overflow_entry d k ≡ false → (band_at d k).homes ≡ 32 * prime_tracks d k
-  unfolding band_at
-  prime_homes k e = cond-false (overflow_entry d k) _ _ e
+  some_primes : (k : ℕ) → overflow_entry d k ≡ false → (band_at d k).primes ≡ Some (primes_at d k)
+  some_primes k e = cond-false (overflow_entry d k) _ _ e
 
-  pub no_prime : (k : ℕ) → overflow_entry d k ≡ true → ((band_at d k).first ≡ 0) × ((band_at d k).homes ≡ 0)
-  unfolding band_at
-  no_prime k e = (cond-true (overflow_entry d k) _ _ e, cond-true (overflow_entry d k) _ _ e)
+  no_prime : (k : ℕ) → overflow_entry d k ≡ true → (first_home (band_at d k) ≡ 0) × (homes_of (band_at d k) ≡ 0)
+  no_prime k e = grind (arith, common_steps)
+
+  prime_first : (k : ℕ) → overflow_entry d k ≡ false → first_home (band_at d k) ≡ first_sector (first_track d k Prime)
+  prime_first k e = ap first_in (some_primes k e)
+
+  prime_homes : (k : ℕ) → overflow_entry d k ≡ false → homes_of (band_at d k) ≡ 32 * prime_tracks d k
+  prime_homes k e = ap size_in (some_primes k e)
 
   map_first : (k : ℕ) → (band_at d k).maps ≡ first_sector (first_track d k Map)
-  unfolding band_at
   map_first k = refl
 
   spares_first : (k : ℕ) → (band_at d k).spares ≡ first_sector (first_track d k Alternative)
-  unfolding band_at
   spares_first k = refl
 
   -- a band that stands has its areas where the sheet says
@@ -75,13 +60,13 @@ module _ (n : ℕ) (d : List ℕ) (small : n ≤ 19999) where
   stood k s Map h =
       let hi = s.map_high in
       let e = map_first k in
-      let near : first_track d k Map ≤ 19999 = first_low (first_track d k Map) 128 (omega arith) (omega arith) in
+      let near = first_low (first_track d k Map) 128 (omega arith) (omega arith) in
       let f = first_near (first_track d k Map) near in
       record { first = e ∙ f; size = refl; end = omega arith }
   stood k s Alternative h =
       let hi = s.spares_high in
       let e = spares_first k in
-      let near : first_track d k Alternative ≤ 19999 = first_low (first_track d k Alternative) 128 (omega arith) (omega arith) in
+      let near = first_low (first_track d k Alternative) 128 (omega arith) (omega arith) in
       let f = first_near (first_track d k Alternative) near in
       record { first = e ∙ f; size = refl; end = omega arith }
   stood k s Prime h =
@@ -93,19 +78,14 @@ module _ (n : ℕ) (d : List ℕ) (small : n ≤ 19999) where
       let e = prime_first k o in
       let p = primes_inside (sectors_for n) (band_at d k) s (omega arith) in
       let hi = p.1 in
-      let near : first_track d k Prime ≤ 19999 = first_low (first_track d k Prime) (32 * prime_tracks d k) (omega arith) (omega arith) in
+      let near = first_low (first_track d k Prime) (32 * prime_tracks d k) (omega arith) (omega arith) in
       let f = first_near (first_track d k Prime) near in
       record { first = e ∙ f; size = hs ∙ ap (λ t. 32 * t) (sym tr); end = omega arith })
       (cases_Bool (overflow_entry d k))
 
   -- a track of an area is a sector of it
   lies : (k : ℕ) (a : Purpose) (t : ℕ) → LiesIn d k a t → AreaAt k a → InArea (band_at d k) a (32 * (t + 2))
-  lies k a t l r =
-      let f = r.first in
-      let s = r.size in
-      let from = l.from in
-      let before = l.before in
-      (omega arith, omega arith)
+  lies k a t l r = grind (arith, common_steps)
 
   some_tracks : (k : ℕ) (a : Purpose) (t : ℕ) → LiesIn d k a t → 1 ≤ tracks_of d k a
   some_tracks k a t l = let from = l.from in let before = l.before in omega arith
@@ -115,11 +95,7 @@ module _ (n : ℕ) (d : List ℕ) (small : n ≤ 19999) where
     in_band k a t l = lies k a t l (stood k (each k l.band) a (some_tracks k a t l))
 
     inside_rule : (k : ℕ) (a : Purpose) (t : ℕ) → LiesIn d k a t → t ≤ n
-    inside_rule k a t l =
-        let r = stood k (each k l.band) a (some_tracks k a t l) in
-        let e = r.end in
-        let before = l.before in
-        omega arith
+    inside_rule k a t l = grind (arith, common_steps)
 
     disjoint_rule : (k j : ℕ) (a b : Purpose) (t : ℕ) → LiesIn d k a t → LiesIn d j b t → (k ≡ j) × (a ≡ b)
     disjoint_rule k j a b t l m =
@@ -131,30 +107,17 @@ module _ (n : ℕ) (d : List ℕ) (small : n ≤ 19999) where
         (cases_order k j)
 
     some_track_rule : (k : ℕ) → HasPrime d k → 1 ≤ prime_tracks d k
-    some_track_rule k h =
-        ⊎_elim
-        (λ (p : 0 < prime_tracks d k). p)
-        (λ (z : prime_tracks d k ≤ 0).
-        let hs = prime_homes k h.1 in
-        let f = prime_first k h.1 in
-        let low = first_some (first_track d k Prime) in
-        let none : (band_at d k).homes ≡ 0 = omega arith in
-        let zero_first : (band_at d k).first ≡ 0 = eqb-true _ _ (sym (cond-true (overflow (band_at d k)) _ _ (eq-eqb _ _ none)) ∙ (each k h.0).primes) in
-        absurd (omega arith))
-        (cases_lt 0 (prime_tracks d k))
+    some_track_rule k h = grind (arith, common_steps)
 
     prime_area : (k : ℕ) → HasPrime d k → AreaAt k Prime
-    prime_area k h =
-        let tr : tracks_of d k Prime ≡ prime_tracks d k = cond-false (overflow_entry d k) 0 (prime_tracks d k) h.1 in
-        let s = some_track_rule k h in
-        stood k (each k h.0) Prime (omega arith)
+    prime_area k h = grind (arith, common_steps)
 
     rising_rule : (k j : ℕ) → HasPrime d k → HasPrime d j → k < j → first_track d k Prime < first_track d j Prime
     rising_rule k j h m l =
-        let some : (i : ℕ) → HasPrime d i → overflow (band_at d i) ≡ false = λ i p. let s = some_track_rule i p in let hs = prime_homes i p.1 in ne_eqb _ _ (λ e. omega arith) in
+        let some : (i : ℕ) → HasPrime d i → overflow (band_at d i) ≡ false = λ i p. ap is_none (some_primes i p.1) in
         let fk = (prime_area k h).first in
         let fj = (prime_area j m).first in
-        let less : (band_at d k).first < (band_at d j).first =
+        let less : first_home (band_at d k) < first_home (band_at d j) =
         ⊎_elim
         (λ u. absurd (both_ways _ (some k h) u))
         (λ u. ⊎_elim (λ v. absurd (both_ways _ (some j m) v)) (λ v. ltb-true _ _ v) (or_cases (overflow (band_at d j)) _ u))
@@ -163,7 +126,6 @@ module _ (n : ℕ) (d : List ℕ) (small : n ≤ 19999) where
 
   -- what the test passes keeps the rules
   pub rules_kept : (identified d && valid (layout_in n d)) ≡ true → LayoutRules n d
-  unfolding valid layout_in
   rules_kept t =
       let h = and_parts (identified d) (valid (layout_in n d)) t in
       let ids = and_parts (eqb (get_or d 0 0) 0) (eqb (get_or d 1 0) 0) h.0 in
@@ -181,7 +143,7 @@ module _ (n : ℕ) (d : List ℕ) (small : n ≤ 19999) where
       let home = some_home bs (leb-true _ _ e.0) in
       let within = home.1 in
       let at_home : home.0 < band_count d = omega arith in
-      let homes : 1 ≤ (band_at d home.0).homes = subst (λ x. 1 ≤ x.homes) (band_used n d home.0 few at_home) home.2 in
+      let homes : 1 ≤ homes_of (band_at d home.0) = subst (λ x. 1 ≤ homes_of x) (band_used n d home.0 few at_home) home.2 in
       let prime : overflow_entry d home.0 ≡ false = ⊎_elim (λ o. absurd (let z = (no_prime home.0 o).1 in omega arith)) (λ o. o) (cases_Bool (overflow_entry d home.0)) in
       record {
         first_byte = eqb-true _ _ ids.0;
@@ -240,18 +202,10 @@ module _ (n : ℕ) (d : List ℕ) (small : n ≤ 19999) where
         (λ (l : first_track d k a < first_track d j b + tracks_of d j b).
         ⊎_elim
         (λ (o : first_track d j b < first_track d k a + tracks_of d k a).
-        ⊎_elim
-        (λ (u : first_track d k a < first_track d j b).
-        let here : LiesIn d k a (first_track d j b) = record { band = h; from = omega arith; before = o } in
-        let there : LiesIn d j b (first_track d j b) = record { band = m; from = omega arith; before = omega arith } in
-        let same = r.disjoint k j a b (first_track d j b) here there in
+        let here : LiesIn d k a (max (first_track d k a) (first_track d j b)) = record { band = h; from = omega arith; before = omega arith } in
+        let there : LiesIn d j b (max (first_track d k a) (first_track d j b)) = record { band = m; from = omega arith; before = omega arith } in
+        let same = r.disjoint k j a b (max (first_track d k a) (first_track d j b)) here there in
         absurd (other same.0 same.1))
-        (λ (u : first_track d j b ≤ first_track d k a).
-        let here : LiesIn d k a (first_track d k a) = record { band = h; from = omega arith; before = omega arith } in
-        let there : LiesIn d j b (first_track d k a) = record { band = m; from = u; before = l } in
-        let same = r.disjoint k j a b (first_track d k a) here there in
-        absurd (other same.0 same.1))
-        (cases_lt (first_track d k a) (first_track d j b)))
         (λ (o : first_track d k a + tracks_of d k a ≤ first_track d j b). before (first_of (band_at d k) a) (size_of (band_at d k) a) (first_of (band_at d j) b) (size_of (band_at d j) b) (omega arith))
         (cases_lt (first_track d j b) (first_track d k a + tracks_of d k a)))
         (λ (l : first_track d j b + tracks_of d j b ≤ first_track d k a). behind (first_of (band_at d k) a) (size_of (band_at d k) a) (first_of (band_at d j) b) (size_of (band_at d j) b) (omega arith))
@@ -276,29 +230,27 @@ module _ (n : ℕ) (d : List ℕ) (small : n ≤ 19999) where
         let e = p.end in
         within_tracks (sectors_for n) (first_of (band_at d k) a) (size_of (band_at d k) a) (omega arith) (omega arith)
 
-    primes_stand : (k : ℕ) → k < band_count d → cond (overflow (band_at d k)) (eqb (band_at d k).first 0) (inside (sectors_for n) (band_at d k).first (band_at d k).homes) ≡ true
-    primes_stand k h =
+    primes_kept : (k : ℕ) → k < band_count d → overflow (band_at d k) ≡ false → (1 ≤ homes_of (band_at d k)) × (inside (sectors_for n) (first_home (band_at d k)) (homes_of (band_at d k)) ≡ true)
+    primes_kept k h there =
         ⊎_elim
-        (λ o. let z = no_prime k o in cond-true (overflow (band_at d k)) _ _ (eq-eqb _ _ z.1) ∙ eq-eqb _ _ z.0)
+        (λ o. absurd (both_ways _ there (ap is_none (no_primes k o))))
         (λ o.
         let c = prime_count k o in
         let s = r.some_track k (h, o) in
         let hs = prime_homes k o in
-        cond-false (overflow (band_at d k)) _ _ (ne_eqb _ _ (λ e. omega arith)) ∙ area_inside k Prime h (omega arith))
+        (omega arith, area_inside k Prime h (omega arith)))
         (cases_Bool (overflow_entry d k))
 
     band_kept : (k : ℕ) → k < band_count d → band_stands (sectors_for n) (band_at d k) ≡ true
-    unfolding band_stands
     band_kept k h =
         and_from _ _ (and_from _ _ (area_inside k Map h (omega arith)) (area_inside k Alternative h (omega arith)))
-        (and_from _ _ (primes_stand k h)
-        (and_from _ _ (areas_apart k k Map Alternative h h (λ _ e. absurd (map_alternative e)))
-        (and_from _ _ (areas_apart k k Map Prime h h (λ _ e. absurd (map_prime e))) (areas_apart k k Alternative Prime h h (λ _ e. absurd (alternative_prime e))))))
+        (and_from _ _ (areas_apart k k Map Alternative h h (λ _ e. cc))
+        (primes_pass (sectors_for n) (band_at d k) (band_at d k).primes (primes_kept k h) (areas_apart k k Map Prime h h (λ _ e. cc)) (areas_apart k k Alternative Prime h h (λ _ e. cc))))
 
     two_kept : (k j : ℕ) → k < j → j < band_count d → bands_apart (band_at d k) (band_at d j) ≡ true
     two_kept k j l m =
         let h : k < band_count d = omega arith in
-        let over : (i : ℕ) → overflow_entry d i ≡ true → overflow (band_at d i) ≡ true = λ i o. eq-eqb _ _ (no_prime i o).1 in
+        let over : (i : ℕ) → overflow_entry d i ≡ true → overflow (band_at d i) ≡ true = λ i o. ap is_none (no_primes i o) in
         let rises : rises_to (band_at d k) (band_at d j) ≡ true =
         ⊎_elim
         (λ o. or_left _ _ (over k o))
@@ -313,14 +265,13 @@ module _ (n : ℕ) (d : List ℕ) (small : n ≤ 19999) where
         let cj = prime_count j u in
         let fk = (kept_area k Prime h (omega arith)).first in
         let fj = (kept_area j Prime m (omega arith)).first in
-        or_right (overflow (band_at d j)) (ltb (band_at d k).first (band_at d j).first) (lt-ltb (band_at d k).first (band_at d j).first (omega arith)))
+        or_right (overflow (band_at d j)) (ltb (first_home (band_at d k)) (first_home (band_at d j))) (lt-ltb (first_home (band_at d k)) (first_home (band_at d j)) (omega arith)))
         (cases_Bool (overflow_entry d j))))
         (cases_Bool (overflow_entry d k)) in
         pair_from (band_at d k) (band_at d j) rises (λ a b. areas_apart k j a b h m (λ e _. omega arith))
 
     -- what keeps the rules passes the test
     pub rules_pass : (identified d && valid (layout_in n d)) ≡ true
-    unfolding valid layout_in
     rules_pass =
         let bs = bands_of (layout_in n d) in
         let few = r.few_bands in
@@ -334,7 +285,7 @@ module _ (n : ℕ) (d : List ℕ) (small : n ≤ 19999) where
         let s = r.some_track i p in
         let hs = prime_homes i p.1 in
         let at : i < band_count d = p.0 in
-        let same = ap (λ x. x.homes) (band_used n d i few at) in
+        let same = ap homes_of (band_used n d i few at) in
         let w = homes_within bs i (omega arith) in
         let some : 1 ≤ block_count bs = omega arith in
         and_from _ _ (and_from _ _ (eq-eqb _ _ r.first_byte) (eq-eqb _ _ r.second_byte))

@@ -1,24 +1,22 @@
 -- What reading answers, in words.
-use Rattle.std.proofs.Common.{◌≡◌, ℕ, ◌<◌, ◌≤◌, true, false, ◌&&◌, ltb, List, map, sym, refl, ap, ◌∙◌, subst, inl, inr, ⊎_elim, arith}
+use Rattle.std.proofs.lemmas.Grind.{common_steps}
+use Rattle.std.proofs.Common.{◌≡◌, ℕ, ◌<◌, ◌≤◌, true, false, ◌&&◌, ltb, List, map, sym, refl, ap, ◌∙◌, subst, inr, ⊎_elim, arith}
 use Rattle.format.specs.Laws.{format_fault}
-use Rattle.maps.proofs.Formed.{band_in, fitting_tracks, tracks_fitting}
-use Rattle.maps.proofs.Ruled.{kept_area, no_prime, rules_kept, rules_pass}
+use Rattle.maps.proofs.Formed.{band_in}
+use Rattle.maps.proofs.Ruled.{kept_area, no_primes, rules_kept, rules_pass}
 use Rattle.maps.specs.Places.{band_of, first_of, no_band, size_of, valid}
 use Rattle.maps.specs.Reading.{LastTrack, LayoutGiven, SheetRefused, fits_format, last_track}
 use Rattle.maps.specs.Rules.{LayoutRules}
 use Rattle.maps.specs.Sheets.{band_at, band_count, band_or_none, identified, layout_in}
 use Rattle.maps.specs.declared.bands.Layout.{Layout}
 use Rattle.medium.specs.declared.faults.Fault.{Fault}
-use Rattle.medium.specs.declared.faults.Refusal.TheVariants.{WrongSectorCount, BrokenLayout}
+use Rattle.medium.specs.declared.faults.Refusal.TheVariants.{BrokenLayout}
 use Rattle.std.proofs.lemmas.List.{get_or_past}
 use Rattle.std.proofs.lemmas.Bool.{both_ways, cases_lt, cond-false, cond-true, le-ltb, lt-ltb}
 use Rattle.std.specs.List.{range_with_len}
 
 last_of : (p : ℕ) → true ≡ fits_format p → LastTrack p (last_track p)
-last_of p t = let h = fitting_tracks p (sym t) in record { low = h.0; high = h.1; sectors = h.2 }
-
-pub refused_size : (p : ℕ) (d : List ℕ) (f : Fault) → false ≡ fits_format p → f ≡ format_fault WrongSectorCount 0 → SheetRefused p d f
-refused_size p d f t e = inl (e, λ n l. both_ways _ (ap fits_format (sym l.sectors) ∙ sym t) (tracks_fitting n l.low l.high).0)
+last_of p t = grind (arith, common_steps)
 
 pub refused_rules : (p : ℕ) (d : List ℕ) (l : Layout) (f : Fault) → true ≡ fits_format p → l ≡ layout_in (last_track p) d → (identified d && valid l) ≡ false → f ≡ format_fault BrokenLayout 0 → SheetRefused p d f
 refused_rules p d l f t e v g =
@@ -28,11 +26,9 @@ refused_rules p d l f t e v g =
 
 module _ (n : ℕ) (d : List ℕ) (r : LayoutRules n d) (high : n ≤ 19999) (low : 8 ≤ n) where
   used : (k : ℕ) → k < band_count d → band_of (layout_in n d) k ≡ band_at d k
-  unfolding band_or_none
   used k h = let few = r.few_bands in band_in n d k (omega arith) ∙ cond-true (ltb k (band_count d)) _ _ (lt-ltb _ _ h)
 
   beyond : (k : ℕ) → band_count d ≤ k → band_of (layout_in n d) k ≡ no_band
-  unfolding band_or_none layout_in
   beyond k h =
       ⊎_elim
       (λ l. band_in n d k l ∙ cond-false (ltb k (band_count d)) _ _ (le-ltb _ _ h))
@@ -40,20 +36,18 @@ module _ (n : ℕ) (d : List ℕ) (r : LayoutRules n d) (high : n ≤ 19999) (lo
       (cases_lt k 8)
 
   given_in : LayoutGiven n d (layout_in n d)
-  unfolding layout_in
   given_in =
       record {
         last = refl;
         count = refl;
         first = λ k a h some. ap (λ x. first_of x a) (used k h) ∙ (kept_area n d high low r k a h some).first;
         size = λ k a h some. ap (λ x. size_of x a) (used k h) ∙ (kept_area n d high low r k a h some).size;
-        without_prime = λ k h o. let z = no_prime n d high k o in (ap (λ x. x.first) (used k h) ∙ z.0, ap (λ x. x.homes) (used k h) ∙ z.1);
+        without_prime = λ k h o. ap (λ x. x.primes) (used k h) ∙ no_primes n d high k o;
         no_more = beyond;
       }
 
 -- the three parts of a layout that was read
 pub read_as : (p : ℕ) (d : List ℕ) (l : Layout) → true ≡ fits_format p → l ≡ layout_in (last_track p) d → (identified d && valid l) ≡ true → LastTrack p l.last × LayoutRules l.last d × LayoutGiven l.last d l
-unfolding layout_in
 read_as p d l t e v =
     let n = last_track p in
     let z = last_of p t in

@@ -1,20 +1,22 @@
 -- The list of areas has every area of the layout and no other, in rising order.
-use Rattle.std.proofs.Common.{◌≡◌, ℕ, zero, suc, ◌+◌, ◌-◌, ◌*◌, ◌/◌, ◌%◌, ◌<◌, ◌≤◌, true, false, not, ◌&&◌, ◌||◌, eqb, ltb, List, [], ◌∷◌, ◌++◌, map, length, get_or, Some, None, Option, sym, refl, ap, ◌∙◌, subst, ⊎_elim, arith}
+use Rattle.std.proofs.lemmas.Grind.{common_steps}
+use Rattle.std.proofs.Common.{◌≡◌, ℕ, zero, suc, ◌+◌, ◌-◌, ◌*◌, ◌/◌, ◌%◌, ◌<◌, ◌≤◌, true, false, not, ◌&&◌, eqb, List, [], ◌∷◌, ◌++◌, map, length, get_or, Some, None, Option, sym, refl, ap, ◌∙◌, subst, ⊎_elim, arith}
 use mathlib.Core.List.Memᴰ
 use mathlib.Core.List.{Memᴰ}
-use Rattle.maps.proofs.Found.{laid, one_place}
-use Rattle.maps.proofs.Listed.{begun_alternative, begun_map, begun_none, begun_prime}
-use Rattle.maps.proofs.Standing.{Stands, each_stands, primes_inside, stands}
-use Rattle.maps.specs.Areas.{AreaTold, AreasListed, all_areas, area_from, areas_before, as_list, begun, begun_in, or_else}
-use Rattle.maps.specs.Places.{InArea, band_formed, band_of, bands_of, first_of, no_band, overflow, sectors_for, size_of, unused, valid, whole_tracks}
+use Rattle.maps.proofs.Found.{laid, long, one_place}
+use Rattle.maps.proofs.Listed.{areas_before, as_list, before_listed, begun_alternative, begun_map, begun_none, begun_prime}
+use Rattle.maps.proofs.Standing.{Stands, each_stands, stands}
+use Rattle.std.specs.Option.{option_or}
+use Rattle.maps.specs.Areas.{AreaTold, AreasListed, all_areas, area_from, begun, begun_in}
+use Rattle.maps.specs.Places.{InArea, band_formed, band_of, bands_of, first_home, first_of, homes_of, no_band, overflow, sectors_for, size_of, valid, whole_tracks}
 use Rattle.maps.specs.declared.areas.Area.{Area}
 use Rattle.maps.specs.declared.bands.Band.{Band}
 use Rattle.maps.specs.declared.bands.Layout.{Layout}
 use Rattle.maps.specs.declared.bands.Purpose.{Purpose}
 use Rattle.maps.specs.declared.bands.Purpose.TheVariants.{Map, Alternative, Prime}
 use Rattle.medium.specs.Order.{Rising}
-use Rattle.std.proofs.lemmas.List.{append-nil, get_or_append_left, get_or_push, get_or-take, length_push, map_push}
-use Rattle.std.proofs.lemmas.Bool.{and_from, and_parts, cases_Bool, cases_eq, cases_lt, eq-eqb, eqb-true, not_from_false, not-true}
+use Rattle.std.proofs.lemmas.List.{append-nil, map_push}
+use Rattle.std.proofs.lemmas.Bool.{and_parts, cases_Bool, cases_eq, cases_lt, eqb-true, not-true}
 
 -- the area of x for the use a begins on track t
 abbrev Starts : Band → Purpose → ℕ → Type 0
@@ -28,20 +30,14 @@ record Begun (k : ℕ) (x : Band) (t : ℕ) (r : Area) : Type 0 where
   pub starts : Starts x r.purpose t
 
 some_none : (r : Area) (o : Option Area) → o ≡ Some r → o ≡ None → ⊥
-some_none r o p q = let z : ◌≡◌ {A = ℕ} 0 1 = cc in omega arith
-
-same_some : (r s : Area) (o : Option Area) → o ≡ Some r → o ≡ Some s → r ≡ s
-same_some r s o p q = cc
+some_none r o p q = cc
 
 module _ (k : ℕ) (x : Band) (t : ℕ) where
   begun_as : (a : Purpose) (r : Area) → Starts x a t → begun_in k x t ≡ Some (area_from k x a t) → begun_in k x t ≡ Some r → Begun k x t r
-  begun_as a r s e f = subst (Begun k x t) (same_some (area_from k x a t) r (begun_in k x t) e f) (record { band = refl; first = refl; last = refl; starts = s })
+  begun_as a r s e f = grind (arith, common_steps)
 
-  prime_test : (overflow x ≡ true → ⊥) → x.first ≡ 32 * (t + 2) → (not (overflow x) && eqb x.first (32 * (t + 2))) ≡ true
-  prime_test n e = and_from _ _ (not_from_false _ (⊎_elim (λ o. absurd (n o)) (λ o. o) (cases_Bool (overflow x)))) (eq-eqb _ _ e)
-
-  in_sound : (r : Area) → begun_in k x t ≡ Some r → Begun k x t r
-  in_sound r f =
+  in_sound : (overflow x ≡ false → 1 ≤ homes_of x) → (r : Area) → begun_in k x t ≡ Some r → Begun k x t r
+  in_sound homes r f =
       ⊎_elim
       (λ (m : x.maps ≡ 32 * (t + 2)). begun_as Map r (m, omega arith) (begun_map k x t m) f)
       (λ (m : x.maps ≡ 32 * (t + 2) → ⊥).
@@ -50,43 +46,31 @@ module _ (k : ℕ) (x : Band) (t : ℕ) where
       (λ (s : x.spares ≡ 32 * (t + 2) → ⊥).
       ⊎_elim
       (λ p.
-      let two = and_parts (not (overflow x)) (eqb x.first (32 * (t + 2))) p in
+      let two = and_parts (not (overflow x)) (eqb (first_home x) (32 * (t + 2))) p in
       let some : overflow x ≡ false = not-true (overflow x) two.0 in
-      let homes : 1 ≤ x.homes = ⊎_elim (λ (h : 0 < x.homes). h) (λ (z : x.homes ≤ 0). absurd (let n : x.homes ≡ 0 = omega arith in let b : true ≡ false = sym (eq-eqb _ _ n) ∙ some in let w : ◌≡◌ {A = ℕ} 0 1 = cc in omega arith)) (cases_lt 0 x.homes) in
-      begun_as Prime r (eqb-true _ _ two.1, homes) (begun_prime k x t m s p) f)
+      begun_as Prime r (eqb-true _ _ two.1, homes some) (begun_prime k x t m s p) f)
       (λ p. absurd (some_none r (begun_in k x t) f (begun_none k x t m s p)))
-      (cases_Bool (not (overflow x) && eqb x.first (32 * (t + 2)))))
+      (cases_Bool (not (overflow x) && eqb (first_home x) (32 * (t + 2)))))
       (cases_eq x.spares (32 * (t + 2))))
       (cases_eq x.maps (32 * (t + 2)))
 
   in_none : (a : Purpose) → begun_in k x t ≡ None → Starts x a t → ⊥
-  in_none a f s =
-      ⊎_elim
-      (λ (m : x.maps ≡ 32 * (t + 2)). some_none _ (begun_in k x t) (begun_map k x t m) f)
-      (λ (m : x.maps ≡ 32 * (t + 2) → ⊥).
-      ⊎_elim
-      (λ (u : x.spares ≡ 32 * (t + 2)). some_none _ (begun_in k x t) (begun_alternative k x t m u) f)
-      (λ (u : x.spares ≡ 32 * (t + 2) → ⊥). third a s m u)
-      (cases_eq x.spares (32 * (t + 2))))
-      (cases_eq x.maps (32 * (t + 2)))
-    where
-      third : (b : Purpose) → Starts x b t → (x.maps ≡ 32 * (t + 2) → ⊥) → (x.spares ≡ 32 * (t + 2) → ⊥) → ⊥
-      third Map w m u = m w.0
-      third Alternative w m u = u w.0
-      third Prime w m u =
-          let h = w.1 in
-          some_none _ (begun_in k x t) (begun_prime k x t m u (prime_test (λ o. let z : x.homes ≡ 0 = eqb-true _ _ o in omega arith) w.0)) f
+  in_none a f s = grind (arith, common_steps)
 
 -- the area that begins on a track, over all bands
 abbrev Sound : ℕ → List Band → ℕ → Area → Type 0
 Sound n bs t r = (j : ℕ) × (j < length bs) × Begun (n + j) (get_or bs j no_band) t r
 
-all_sound : (n : ℕ) (bs : List Band) (t : ℕ) (r : Area) → begun n bs t ≡ Some r → Sound n bs t r
-all_sound n [] t r f = absurd (some_none r None f refl)
-all_sound n (x ∷ xs) t r f = by (begun_in n x t) refl f (λ g. all_sound (n + 1) xs t r g)
+-- each prime area has a sector
+abbrev Homed : List Band → Type 0
+Homed bs = (j : ℕ) → j < length bs → overflow (get_or bs j no_band) ≡ false → 1 ≤ homes_of (get_or bs j no_band)
+
+all_sound : (n : ℕ) (bs : List Band) → Homed bs → (t : ℕ) (r : Area) → begun n bs t ≡ Some r → Sound n bs t r
+all_sound n [] homed t r f = absurd (some_none r None f refl)
+all_sound n (x ∷ xs) homed t r f = by (begun_in n x t) refl f (λ g. all_sound (n + 1) xs (λ j h. homed (suc j) (omega arith)) t r g)
   where
-    by : (o : Option Area) → begun_in n x t ≡ o → or_else o (begun (n + 1) xs t) ≡ Some r → (begun (n + 1) xs t ≡ Some r → Sound (n + 1) xs t r) → Sound n (x ∷ xs) t r
-    by (Some a) e g more = let z : n ≡ n + 0 = omega arith in (0, omega arith, subst (λ i. Begun i x t r) z (in_sound n x t r (e ∙ g)))
+    by : (o : Option Area) → begun_in n x t ≡ o → option_or o (begun (n + 1) xs t) ≡ Some r → (begun (n + 1) xs t ≡ Some r → Sound (n + 1) xs t r) → Sound n (x ∷ xs) t r
+    by (Some a) e g more = let z : n ≡ n + 0 = omega arith in (0, omega arith, subst (λ i. Begun i x t r) z (in_sound n x t (homed 0 (omega arith)) r (e ∙ g)))
     by None e g more =
         let m = more g in
         let l = m.1 in
@@ -97,53 +81,38 @@ all_none : (n : ℕ) (bs : List Band) (t j : ℕ) (a : Purpose) → begun n bs t
 all_none n [] t j a f h s = absurd (omega arith)
 all_none n (x ∷ xs) t j a f h s = by (begun_in n x t) refl f j h s (λ g i l w. all_none (n + 1) xs t i a g l w)
   where
-    by : (o : Option Area) → begun_in n x t ≡ o → or_else o (begun (n + 1) xs t) ≡ None → (j : ℕ) → j < length (x ∷ xs) → Starts (get_or (x ∷ xs) j no_band) a t → (begun (n + 1) xs t ≡ None → (i : ℕ) → i < length xs → Starts (get_or xs i no_band) a t → ⊥) → ⊥
+    by : (o : Option Area) → begun_in n x t ≡ o → option_or o (begun (n + 1) xs t) ≡ None → (j : ℕ) → j < length (x ∷ xs) → Starts (get_or (x ∷ xs) j no_band) a t → (begun (n + 1) xs t ≡ None → (i : ℕ) → i < length xs → Starts (get_or xs i no_band) a t → ⊥) → ⊥
     by (Some b) e g j h s more = some_none b (Some b) refl g
     by None e g zero h s more = in_none n x t a e s
     by None e g (suc j) h s more = more g j (omega arith) s
 
 -- lists of numbers that rise, and one more
 rising_push : (xs : List ℕ) (y : ℕ) → Rising xs → ((k : ℕ) → k < length xs → get_or xs k 0 < y) → Rising (xs ++ y ∷ [])
-rising_push xs y rise below k h =
-    let long = length_push xs y in
-    let here = get_or_append_left xs (y ∷ []) 0 k (omega arith) in
-    ⊎_elim
-    (λ (l : k + 1 < length xs). let next = get_or_append_left xs (y ∷ []) 0 (k + 1) l in let r = rise k l in omega arith)
-    (λ (l : length xs ≤ k + 1). let next = get_or_push xs y 0 (k + 1) (omega arith) in let b = below k (omega arith) in omega arith)
-    (cases_lt (k + 1) (length xs))
+rising_push xs y rise below k h = grind (arith, common_steps)
 
 below_push : (xs : List ℕ) (y : ℕ) → ((k : ℕ) → k < length xs → get_or xs k 0 < y) → (k : ℕ) → k < length (xs ++ y ∷ []) → get_or (xs ++ y ∷ []) k 0 < suc y
-below_push xs y below k h =
-    let long = length_push xs y in
-    ⊎_elim
-    (λ (l : k < length xs). let e = get_or_append_left xs (y ∷ []) 0 k l in let b = below k l in omega arith)
-    (λ (l : length xs ≤ k). let e = get_or_push xs y 0 k (omega arith) in omega arith)
-    (cases_lt k (length xs))
+below_push xs y below k h = grind (arith, common_steps)
 
 abbrev firsts : List Area → List ℕ
 firsts rs = map (λ r. r.first) rs
 
 whole_by : (x : Band) → whole_tracks x ≡ true → (b : Purpose) → (first_of x b % 32 ≡ 0) × (size_of x b % 32 ≡ 0)
-whole_by x w Map =
-    let two = and_parts (eqb (x.maps % 32) 0 && eqb (x.spares % 32) 0) (eqb (x.first % 32) 0 && eqb (x.homes % 32) 0) w in
-    (eqb-true _ _ (and_parts (eqb (x.maps % 32) 0) (eqb (x.spares % 32) 0) two.0).0, refl)
-whole_by x w Alternative =
-    let two = and_parts (eqb (x.maps % 32) 0 && eqb (x.spares % 32) 0) (eqb (x.first % 32) 0 && eqb (x.homes % 32) 0) w in
-    (eqb-true _ _ (and_parts (eqb (x.maps % 32) 0) (eqb (x.spares % 32) 0) two.0).1, refl)
-whole_by x w Prime =
-    let two = and_parts (eqb (x.maps % 32) 0 && eqb (x.spares % 32) 0) (eqb (x.first % 32) 0 && eqb (x.homes % 32) 0) w in
-    let h = and_parts (eqb (x.first % 32) 0) (eqb (x.homes % 32) 0) two.1 in
-    (eqb-true _ _ h.0, eqb-true _ _ h.1)
+whole_by x w Map = grind (arith, common_steps)
+whole_by x w Alternative = grind (arith, common_steps)
+whole_by x w Prime = grind (arith, common_steps)
 
 -- the area of a band that stands lies within the tracks
 area_within : (end : ℕ) (x : Band) → Stands end x → (a : Purpose) → 1 ≤ size_of x a → (64 ≤ first_of x a) × (first_of x a + size_of x a ≤ end)
-area_within end x s Map h = (s.map_low, s.map_high)
-area_within end x s Alternative h = (s.spares_low, s.spares_high)
-area_within end x s Prime h = primes_inside end x s h
+area_within end x s Map h = grind (arith, common_steps)
+area_within end x s Alternative h = grind (arith, common_steps)
+area_within end x s Prime h = grind (arith, common_steps)
 
 module _ (l : Layout) (kept : valid l ≡ true) (eight : length l.bands ≡ 8) (formed : (k : ℕ) → band_formed l.count k (band_of l k) ≡ true) where
   used : (k : ℕ) → k < l.count → get_or (bands_of l) k no_band ≡ band_of l k
-  used k h = get_or-take l.count l.bands k no_band h
+  used k h = grind (arith, common_steps)
+
+  homed : Homed (bands_of l)
+  homed j h = (stands (sectors_for l.last) (get_or (bands_of l) j no_band) (each_stands (sectors_for l.last) (bands_of l) (laid l kept).stand j h)).primes.some_home
 
   rise : (t : ℕ) → Rising (firsts (areas_before l t)) × ((k : ℕ) → k < length (firsts (areas_before l t)) → get_or (firsts (areas_before l t)) k 0 < t)
   rise zero = ((λ k h. absurd (omega arith)), (λ k h. absurd (omega arith)))
@@ -151,7 +120,7 @@ module _ (l : Layout) (kept : valid l ≡ true) (eight : length l.bands ≡ 8) (
     where
       by : (o : Option Area) → begun 1 (bands_of l) t ≡ o → Rising (firsts (areas_before l t)) × ((k : ℕ) → k < length (firsts (areas_before l t)) → get_or (firsts (areas_before l t)) k 0 < t) → Rising (firsts (areas_before l t ++ as_list o)) × ((k : ℕ) → k < length (firsts (areas_before l t ++ as_list o)) → get_or (firsts (areas_before l t ++ as_list o)) k 0 < suc t)
       by (Some r) e p =
-          let first : r.first ≡ t = (all_sound 1 (bands_of l) t r e).2.first in
+          let first : r.first ≡ t = (all_sound 1 (bands_of l) homed t r e).2.first in
           let same : firsts (areas_before l t) ++ t ∷ [] ≡ firsts (areas_before l t ++ r ∷ []) = ap (λ n. firsts (areas_before l t) ++ n ∷ []) (sym first) ∙ sym (map_push (λ s. s.first) (areas_before l t) r) in
           (subst Rising same (rising_push (firsts (areas_before l t)) t p.0 p.1), subst (λ ys. (k : ℕ) → k < length ys → get_or ys k 0 < suc t) same (below_push (firsts (areas_before l t)) t p.1))
       by None e p =
@@ -159,14 +128,14 @@ module _ (l : Layout) (kept : valid l ≡ true) (eight : length l.bands ≡ 8) (
           (subst Rising same p.0, subst (λ ys. (k : ℕ) → k < length ys → get_or ys k 0 < suc t) same (λ k h. let b = p.1 k h in omega arith))
 
   whole_size : (k : ℕ) (a : Purpose) → (first_of (band_of l k) a % 32 ≡ 0) × (size_of (band_of l k) a % 32 ≡ 0)
-  whole_size k a = whole_by (band_of l k) (and_parts (whole_tracks (band_of l k)) (ltb k l.count || unused (band_of l k)) (formed k)).0 a
+  whole_size k a = grind (arith, common_steps)
 
   told : (t : ℕ) (r : Area) → begun 1 (bands_of l) t ≡ Some r → AreaTold l r
   told t r e =
-      let s = all_sound 1 (bands_of l) t r e in
+      let s = all_sound 1 (bands_of l) homed t r e in
       let j : ℕ = s.0 in
       let within = s.1 in
-      let long = (laid l kept eight).long in
+      let long = long l kept eight in
       let known : j < l.count = omega arith in
       let g = subst (λ x. Begun (1 + j) x t r) (used j known) s.2 in
       let number = g.band in
@@ -209,10 +178,10 @@ module _ (l : Layout) (kept : valid l ≡ true) (eight : length l.bands ≡ 8) (
   there k a t h s = by (begun 1 (bands_of l) t) refl
     where
       by : (o : Option Area) → begun 1 (bands_of l) t ≡ o → (r : Area) × Memᴰ r (areas_before l t ++ as_list o) × (r.band ≡ k + 1) × (r.purpose ≡ a)
-      by None e = let long = (laid l kept eight).long in absurd (all_none 1 (bands_of l) t k a e (omega arith) s)
+      by None e = let long = long l kept eight in absurd (all_none 1 (bands_of l) t k a e (omega arith) s)
       by (Some r) e =
-          let g = all_sound 1 (bands_of l) t r e in
-          let long = (laid l kept eight).long in
+          let g = all_sound 1 (bands_of l) homed t r e in
+          let long = long l kept eight in
           let i = 32 * (t + 2) in
           let b0 = g.2.starts.0 in
           let b1 = g.2.starts.1 in
@@ -220,18 +189,18 @@ module _ (l : Layout) (kept : valid l ≡ true) (eight : length l.bands ≡ 8) (
           let s1 = s.1 in
           let here : InArea (get_or (bands_of l) k no_band) a (32 * (t + 2)) = (omega arith, omega arith) in
           let found : InArea (get_or (bands_of l) g.0 no_band) r.purpose (32 * (t + 2)) = (omega arith, omega arith) in
-          let one = one_place (sectors_for l.last) (bands_of l) (laid l kept eight).stand k g.0 a r.purpose (32 * (t + 2)) (omega arith) g.1 here found in
+          let one = one_place (sectors_for l.last) (bands_of l) (laid l kept).stand k g.0 a r.purpose (32 * (t + 2)) (omega arith) g.1 here found in
           let same = one.0 in
           let number = g.2.band in
           (r, Memᴰ.append_right (areas_before l t) (Memᴰ.head refl), omega arith, sym one.1)
 
   every_listed : (k : ℕ) (a : Purpose) → k < l.count → 1 ≤ size_of (band_of l k) a → ListedAs (l.last + 1) k a
   every_listed k a h some =
-      let long = (laid l kept eight).long in
+      let long = long l kept eight in
       let e = used k h in
       let w = whole_size k a in
       let w0 = w.0 in
-      let st = subst (Stands (sectors_for l.last)) e (stands (sectors_for l.last) (get_or (bands_of l) k no_band) (each_stands (sectors_for l.last) (bands_of l) (laid l kept eight).stand k (omega arith))) in
+      let st = subst (Stands (sectors_for l.last)) e (stands (sectors_for l.last) (get_or (bands_of l) k no_band) (each_stands (sectors_for l.last) (bands_of l) (laid l kept).stand k (omega arith))) in
       let inside = area_within (sectors_for l.last) (band_of l k) st a some in
       let low = inside.0 in
       let high = inside.1 in
@@ -243,6 +212,5 @@ module _ (l : Layout) (kept : valid l ≡ true) (eight : length l.bands ≡ 8) (
       (r.0, kept_on (l.last + 1) (suc (first_of (band_of l k) a / 32 - 2)) r.0 le r.1, r.2, r.3)
 
   pub areas_listed : (rs : List Area) → rs ≡ all_areas l → AreasListed l rs
-  unfolding all_areas
   areas_listed rs e =
-      subst (AreasListed l) (sym e) (record { each = each_told (l.last + 1); every = every_listed; rising = (rise (l.last + 1)).0 })
+      subst (AreasListed l) (before_listed l (l.last + 1) ∙ sym e) (record { each = each_told (l.last + 1); every = every_listed; rising = (rise (l.last + 1)).0 })

@@ -1,71 +1,48 @@
 -- The bytes that a layout is written in, and what reading them gives.
-use Rattle.std.proofs.Common.{◌≡◌, ℕ, ◌+◌, ◌-◌, ◌*◌, ◌/◌, ◌%◌, ◌<◌, ◌≤◌, true, false, cond, ◌&&◌, ◌||◌, eqb, ltb, leb, List, map, length, get_or, Ok, sym, refl, ap, ◌∙◌, ⊎_elim, arith}
+use Rattle.std.proofs.lemmas.Grind.{common_steps}
+use Rattle.std.proofs.Common.{◌≡◌, ℕ, ◌+◌, ◌-◌, ◌*◌, ◌/◌, ◌%◌, ◌<◌, ◌≤◌, true, false, ◌&&◌, eqb, ltb, List, map, length, get_or, Some, None, Option, is_none, Ok, sym, refl, ap, ◌∙◌, ⊎_elim, arith}
 use Rattle.maps.proofs.Formed.{kept, tracks_fitting}
-use Rattle.maps.proofs.Found.{laid, last_low}
+use Rattle.maps.proofs.Found.{laid, last_low, long}
 use Rattle.maps.proofs.Standing.{Stands, each_stands, primes_inside, stands}
-use Rattle.maps.specs.Places.{band_formed, band_of, band_stands, bands_of, no_band, overflow, sectors_for, unused, valid, whole_tracks}
+use Rattle.maps.specs.Places.{band_formed, band_of, band_stands, bands_of, first_home, first_in, homes_of, no_band, overflow, sectors_for, size_in, valid}
 use Rattle.maps.specs.Reading.{last_track, reading_layout}
-use Rattle.maps.specs.Sheets.{Writable, band_at, band_count, band_or_none, entry_byte, entry_number, first_sector, first_track, identified, layout_in, overflow_entry, prime_tracks, sheet_byte, sheet_of, track_of, two_at}
+use Rattle.medium.specs.Bytes.{two_at}
+use Rattle.maps.specs.Sheets.{Writable, band_at, band_count, band_or_none, entry_byte, entry_numbers, first_sector, first_track, identified, layout_in, overflow_entry, prime_numbers, prime_tracks, sheet_byte, sheet_of, track_of}
 use Rattle.maps.specs.declared.bands.Band.{Band}
+use Rattle.maps.specs.declared.bands.Extent.{Extent}
 use Rattle.maps.specs.declared.bands.Layout.{Layout}
 use Rattle.maps.specs.declared.bands.Purpose.TheVariants.{Map, Alternative, Prime}
-use Rattle.std.proofs.lemmas.List.FromFn.{fill_by_all, get_or-map-range_with_len, length-map-range_with_len}
+use Rattle.std.proofs.lemmas.List.FromFn.{get_or-map-range_with_len, length-map-range_with_len}
 use Rattle.std.proofs.lemmas.List.{ext_get_or, get_or-take}
 use Rattle.std.specs.List.{range_with_len}
-use Rattle.std.proofs.lemmas.Bool.{and_from, and_parts, both_ways, cases_Bool, cases_lt, cond-false, cond-true, eq-eqb, eqb-false, eqb-true, le-leb, le-ltb, lt-ltb, ne_eqb, or_cases}
+use Rattle.std.proofs.lemmas.Bool.{and_from, cases_Bool, cases_lt, cond-false, cond-true, eq-eqb, le-ltb, lt-ltb, ne_eqb}
 
--- the numbers of an entry, by the place and the band
-pub number_maps : (x : Band) (i : ℕ) → i ≡ 0 → entry_number x i ≡ track_of x.maps
-unfolding entry_number
-number_maps x i e = cond-true (eqb i 0) _ _ (eq-eqb _ _ e)
+-- a prime area that is there or not
+none_there : (o : Option Extent) → is_none o ≡ true → o ≡ None
+none_there None t = grind (arith, common_steps)
+none_there (Some e) t = grind (arith, common_steps)
 
-pub number_spares : (x : Band) (i : ℕ) → i ≡ 1 → entry_number x i ≡ track_of x.spares
-unfolding entry_number
-number_spares x i e = cond-false (eqb i 0) _ _ (ne_eqb _ _ (λ z. omega arith)) ∙ cond-true (eqb i 1) _ _ (eq-eqb _ _ e)
-
-prime_number : (x : Band) (i : ℕ) → 2 ≤ i → entry_number x i ≡ cond (overflow x) 65535 (cond (eqb i 2) (track_of x.first) (x.homes / 32))
-unfolding entry_number
-prime_number x i h = cond-false (eqb i 0) _ _ (ne_eqb _ _ (λ z. omega arith)) ∙ cond-false (eqb i 1) _ _ (ne_eqb _ _ (λ z. omega arith))
-
-pub number_none : (x : Band) (i : ℕ) → 2 ≤ i → overflow x ≡ true → entry_number x i ≡ 65535
-number_none x i h o = prime_number x i h ∙ cond-true (overflow x) _ _ o
-
-pub number_first : (x : Band) (i : ℕ) → i ≡ 2 → overflow x ≡ false → entry_number x i ≡ track_of x.first
-number_first x i h o = prime_number x i (omega arith) ∙ cond-false (overflow x) _ _ o ∙ cond-true (eqb i 2) _ _ (eq-eqb _ _ h)
-
-pub number_tracks : (x : Band) (i : ℕ) → 3 ≤ i → overflow x ≡ false → entry_number x i ≡ x.homes / 32
-number_tracks x i h o = prime_number x i (omega arith) ∙ cond-false (overflow x) _ _ o ∙ cond-false (eqb i 2) _ _ (ne_eqb _ _ (λ z. omega arith))
-
--- the bytes of a sheet, by their place
-pub byte_identifier : (l : Layout) (i : ℕ) → i < 2 → sheet_byte l i ≡ 0
-unfolding sheet_byte
-byte_identifier l i h = cond-true (ltb i 2) _ _ (lt-ltb _ _ h)
+some_there : (o : Option Extent) → is_none o ≡ false → o ≡ Some (record { first = first_in o; size = size_in o })
+some_there None t = grind (arith, common_steps)
+some_there (Some e) t = grind (arith, common_steps)
 
 pub byte_count : (l : Layout) (i : ℕ) → i ≡ 2 → sheet_byte l i ≡ l.count
-unfolding sheet_byte
-byte_count l i e = cond-false (ltb i 2) _ _ (le-ltb _ _ (omega arith)) ∙ cond-true (eqb i 2) _ _ (eq-eqb _ _ e)
-
-later_byte : (l : Layout) (i : ℕ) → 3 ≤ i → sheet_byte l i ≡ cond (ltb ((i - 3) / 8) l.count) (entry_byte (band_of l ((i - 3) / 8)) ((i - 3) % 8)) 255
-unfolding sheet_byte
-later_byte l i h = cond-false (ltb i 2) _ _ (le-ltb _ _ (omega arith)) ∙ cond-false (eqb i 2) _ _ (ne_eqb _ _ (λ z. omega arith))
+byte_count l i e = grind (arith, common_steps)
 
 pub byte_entry : (l : Layout) (i : ℕ) → 3 ≤ i → (i - 3) / 8 < l.count → sheet_byte l i ≡ entry_byte (band_of l ((i - 3) / 8)) ((i - 3) % 8)
-byte_entry l i h m = later_byte l i h ∙ cond-true (ltb ((i - 3) / 8) l.count) _ _ (lt-ltb _ _ m)
-
-pub byte_filler : (l : Layout) (i : ℕ) → 3 ≤ i → l.count ≤ (i - 3) / 8 → sheet_byte l i ≡ 255
-byte_filler l i h m = later_byte l i h ∙ cond-false (ltb ((i - 3) / 8) l.count) _ _ (le-ltb _ _ m)
+byte_entry l i h m = grind (arith, common_steps)
 
 module _ (l : Layout) (kept : valid l ≡ true) (eight : length l.bands ≡ 8) where
   end_small : sectors_for l.last ≤ 640064
-  end_small = let s = (laid l kept eight).small in omega arith
+  end_small = let s = (laid l kept).small in omega arith
 
   pub bands_few : l.count ≤ 8
-  bands_few = (laid l kept eight).few
+  bands_few = (laid l kept).few
 
   standing : (k : ℕ) → k < l.count → Stands (sectors_for l.last) (band_of l k)
   standing k h =
-      let g = (laid l kept eight).long in
-      stands (sectors_for l.last) (band_of l k) (ap (band_stands (sectors_for l.last)) (sym (get_or-take l.count l.bands k no_band h)) ∙ each_stands (sectors_for l.last) (bands_of l) (laid l kept eight).stand k (omega arith))
+      let g = long l kept eight in
+      stands (sectors_for l.last) (band_of l k) (ap (band_stands (sectors_for l.last)) (sym (get_or-take l.count l.bands k no_band h)) ∙ each_stands (sectors_for l.last) (bands_of l) (laid l kept).stand k (omega arith))
 
   pub writable : (k : ℕ) → k < l.count → Writable (band_of l k)
   writable k h =
@@ -79,37 +56,28 @@ module _ (l : Layout) (kept : valid l ≡ true) (eight : length l.bands ≡ 8) w
         map_high = omega arith;
         spares_low = s.spares_low;
         spares_high = omega arith;
-        prime_low = λ p. (primes p).0;
-        prime_high = λ p. let q = (primes p).1 in omega arith;
-        homes_high = ⊎_elim (λ (p : 0 < (band_of l k).homes). let q = (primes p).1 in omega arith) (λ (z : (band_of l k).homes ≤ 0). omega arith) (cases_lt 0 (band_of l k).homes);
+        prime_low = λ o. (primes (s.primes.some_home o)).0;
+        prime_high = λ o. let h = s.primes.some_home o in let q = (primes h).1 in omega arith;
+        homes_high = ⊎_elim (λ (p : 0 < homes_of (band_of l k)). let q = (primes p).1 in omega arith) (λ (z : homes_of (band_of l k) ≤ 0). omega arith) (cases_lt 0 (homes_of (band_of l k)));
       }
 
 -- a number's two bytes, and the number again
-half_high : (x : Band) (i : ℕ) → entry_byte x (2 * i) ≡ entry_number x i / 256
-unfolding entry_byte
-half_high x i =
-    let even : 2 * i % 2 ≡ 0 = omega arith in
-    let half : 2 * i / 2 ≡ i = omega arith in
-    cond-true (eqb (2 * i % 2) 0) _ _ (eq-eqb _ _ even) ∙ ap (λ n. entry_number x n / 256) half
+half_high : (x : Band) (i : ℕ) → entry_byte x (2 * i) ≡ get_or (entry_numbers x) i 0 / 256
+half_high x i = grind (arith, common_steps)
 
-half_low : (x : Band) (i : ℕ) → entry_byte x (2 * i + 1) ≡ entry_number x i % 256
-unfolding entry_byte
-half_low x i =
-    let odd : (2 * i + 1) % 2 ≡ 0 → ⊥ = λ e. omega arith in
-    let half : (2 * i + 1) / 2 ≡ i = omega arith in
-    cond-false (eqb ((2 * i + 1) % 2) 0) _ _ (ne_eqb _ _ odd) ∙ ap (λ n. entry_number x n % 256) half
+half_low : (x : Band) (i : ℕ) → entry_byte x (2 * i + 1) ≡ get_or (entry_numbers x) i 0 % 256
+half_low x i = grind (arith, common_steps)
 
 -- the first sector of a track, and the sector again
 first_back : (s : ℕ) → 64 ≤ s → s < 640064 → s % 32 ≡ 0 → first_sector (track_of s) ≡ s
-unfolding first_sector
-first_back s low high whole =
-    let near : s / 32 - 2 ≤ 19999 = omega arith in
-    let e : 32 * (s / 32 - 2 + 2) ≡ s = omega arith in
-    cond-true (leb (s / 32 - 2) 19999) _ _ (le-leb _ _ near) ∙ e
+first_back s low high whole = grind (arith, common_steps)
 
 -- bands with the same parts, and layouts
-same_parts : (m s f n m' s' f' n' : ℕ) → m ≡ m' → s ≡ s' → f ≡ f' → n ≡ n' → ◌≡◌ {A = Band} (record { maps = m; spares = s; first = f; homes = n }) (record { maps = m'; spares = s'; first = f'; homes = n' })
-same_parts m s f n m' s' f' n' a b e g = cc
+same_parts : (m s : ℕ) (o : Option Extent) (m' s' : ℕ) (o' : Option Extent) → m ≡ m' → s ≡ s' → o ≡ o' → ◌≡◌ {A = Band} (record { maps = m; spares = s; primes = o }) (record { maps = m'; spares = s'; primes = o' })
+same_parts m s o m' s' o' a b e = cc
+
+same_extent : (f n f' n' : ℕ) → f ≡ f' → n ≡ n' → ◌≡◌ {A = Option Extent} (Some (record { first = f; size = n })) (Some (record { first = f'; size = n' }))
+same_extent f n f' n' a b = cc
 
 same_layout : (n c : ℕ) (xs : List Band) (c' : ℕ) (ys : List Band) → c ≡ c' → xs ≡ ys → ◌≡◌ {A = Layout} (record { last = n; count = c; bands = xs }) (record { last = n; count = c'; bands = ys })
 same_layout n c xs c' ys e f = cc
@@ -126,16 +94,15 @@ module _ (l : Layout) (kept : valid l ≡ true) (eight : length l.bands ≡ 8) (
       ∙ ap (λ n. entry_byte (band_of l n) ((8 * k + 3 + j - 3) % 8)) q
       ∙ ap (entry_byte (band_of l k)) r
 
-  number_back : (k i p : ℕ) → k < l.count → i < 4 → p ≡ 8 * k + 3 + 2 * i → two_at d p ≡ entry_number (band_of l k) i
+  number_back : (k i p : ℕ) → k < l.count → i < 4 → p ≡ 8 * k + 3 + 2 * i → two_at d p ≡ get_or (entry_numbers (band_of l k)) i 0
   number_back k i p h m e =
       let x = band_of l k in
-      let hi : get_or d p 0 ≡ entry_number x i / 256 = ap (λ n. get_or d n 0) e ∙ byte_at k (2 * i) h (omega arith) ∙ half_high x i in
+      let hi : get_or d p 0 ≡ get_or (entry_numbers x) i 0 / 256 = ap (λ n. get_or d n 0) e ∙ byte_at k (2 * i) h (omega arith) ∙ half_high x i in
       let f : p + 1 ≡ 8 * k + 3 + (2 * i + 1) = omega arith in
-      let lo : get_or d (p + 1) 0 ≡ entry_number x i % 256 = ap (λ n. get_or d n 0) f ∙ byte_at k (2 * i + 1) h (omega arith) ∙ half_low x i in
+      let lo : get_or d (p + 1) 0 ≡ get_or (entry_numbers x) i 0 % 256 = ap (λ n. get_or d n 0) f ∙ byte_at k (2 * i + 1) h (omega arith) ∙ half_low x i in
       omega arith
 
-  tracks_back : (k : ℕ) → k < l.count → (first_track d k Map ≡ entry_number (band_of l k) 0) × (first_track d k Alternative ≡ entry_number (band_of l k) 1) × (first_track d k Prime ≡ entry_number (band_of l k) 2) × (prime_tracks d k ≡ entry_number (band_of l k) 3)
-  unfolding first_track prime_tracks
+  tracks_back : (k : ℕ) → k < l.count → (first_track d k Map ≡ track_of (band_of l k).maps) × (first_track d k Alternative ≡ track_of (band_of l k).spares) × (first_track d k Prime ≡ get_or (prime_numbers (band_of l k).primes) 0 0) × (prime_tracks d k ≡ get_or (prime_numbers (band_of l k).primes) 1 0)
   tracks_back k h =
       (number_back k 0 (8 * k + 3) h (omega arith) (omega arith), number_back k 1 (8 * k + 5) h (omega arith) (omega arith), number_back k 2 (8 * k + 7) h (omega arith) (omega arith), number_back k 3 (8 * k + 9) h (omega arith) (omega arith))
 
@@ -143,66 +110,52 @@ module _ (l : Layout) (kept : valid l ≡ true) (eight : length l.bands ≡ 8) (
     abbrev x : Band
     x = band_of l k
 
-    whole : (x.maps % 32 ≡ 0) × (x.spares % 32 ≡ 0) × (x.first % 32 ≡ 0) × (x.homes % 32 ≡ 0)
-    whole =
-        let w = (and_parts (whole_tracks x) (ltb k l.count || unused x) (formed k)).0 in
-        let two = and_parts (eqb (x.maps % 32) 0 && eqb (x.spares % 32) 0) (eqb (x.first % 32) 0 && eqb (x.homes % 32) 0) w in
-        let a = and_parts (eqb (x.maps % 32) 0) (eqb (x.spares % 32) 0) two.0 in
-        let b = and_parts (eqb (x.first % 32) 0) (eqb (x.homes % 32) 0) two.1 in
-        (eqb-true _ _ a.0, eqb-true _ _ a.1, eqb-true _ _ b.0, eqb-true _ _ b.1)
+    whole : (x.maps % 32 ≡ 0) × (x.spares % 32 ≡ 0) × (first_home x % 32 ≡ 0) × (homes_of x % 32 ≡ 0)
+    whole = grind (arith, common_steps)
 
     maps_back : first_sector (first_track d k Map) ≡ x.maps
-    maps_back = let w = writable l kept eight k h in ap first_sector ((tracks_back k h).0 ∙ number_maps x 0 refl) ∙ first_back x.maps w.map_low w.map_high whole.0
+    maps_back = let w = writable l kept eight k h in ap first_sector (tracks_back k h).0 ∙ first_back x.maps w.map_low w.map_high whole.0
 
     spares_back : first_sector (first_track d k Alternative) ≡ x.spares
-    spares_back = let w = writable l kept eight k h in ap first_sector ((tracks_back k h).1 ∙ number_spares x 1 refl) ∙ first_back x.spares w.spares_low w.spares_high whole.1
+    spares_back = let w = writable l kept eight k h in ap first_sector (tracks_back k h).1 ∙ first_back x.spares w.spares_low w.spares_high whole.1
 
-    same_band : (m s f n : ℕ) → m ≡ x.maps → s ≡ x.spares → f ≡ x.first → n ≡ x.homes → ◌≡◌ {A = Band} (record { maps = m; spares = s; first = f; homes = n }) x
-    same_band m s f n a b e g = same_parts m s f n x.maps x.spares x.first x.homes a b e g
+    same_band : (o : Option Extent) → o ≡ x.primes → ◌≡◌ {A = Band} (record { maps = first_sector (first_track d k Map); spares = first_sector (first_track d k Alternative); primes = o }) x
+    same_band o e = same_parts _ _ o x.maps x.spares x.primes maps_back spares_back e
 
     band_none : overflow x ≡ true → band_at d k ≡ x
-    unfolding band_at overflow_entry
     band_none o =
         let t = tracks_back k h in
-        let over : overflow_entry d k ≡ true = and_from _ _ (eq-eqb _ _ (t.2 ∙ number_none x 2 (omega arith) o)) (eq-eqb _ _ (t.3 ∙ number_none x 3 (omega arith) o)) in
-        let no_homes : x.homes ≡ 0 = eqb-true _ _ o in
-        let no_first : x.first ≡ 0 = eqb-true _ _ (sym (cond-true (overflow x) _ _ o) ∙ (standing l kept eight k h).primes) in
-        same_band _ _ _ _ maps_back spares_back (cond-true (overflow_entry d k) _ _ over ∙ sym no_first) (cond-true (overflow_entry d k) _ _ over ∙ sym no_homes)
+        let none = none_there x.primes o in
+        let first : first_track d k Prime ≡ 65535 = t.2 ∙ ap (λ p. get_or (prime_numbers p) 0 0) none in
+        let tracks : prime_tracks d k ≡ 65535 = t.3 ∙ ap (λ p. get_or (prime_numbers p) 1 0) none in
+        let over : overflow_entry d k ≡ true = and_from _ _ (eq-eqb _ _ first) (eq-eqb _ _ tracks) in
+        same_band _ (cond-true (overflow_entry d k) _ _ over ∙ sym none)
 
     band_some : overflow x ≡ false → band_at d k ≡ x
-    unfolding band_at overflow_entry
     band_some o =
         let t = tracks_back k h in
         let w = writable l kept eight k h in
-        let some : 1 ≤ x.homes = let ne = eqb-false x.homes 0 o in ⊎_elim (λ (p : 0 < x.homes). p) (λ (z : x.homes ≤ 0). absurd (ne (omega arith))) (cases_lt 0 x.homes) in
-        let low = w.prime_low some in
-        let high = w.prime_high some in
-        let first = t.2 ∙ number_first x 2 refl o in
-        let tracks = t.3 ∙ number_tracks x 3 (omega arith) o in
+        let some = some_there x.primes o in
+        let low = w.prime_low o in
+        let high = w.prime_high o in
+        let first : first_track d k Prime ≡ track_of (first_home x) = t.2 ∙ ap (λ p. get_or (prime_numbers p) 0 0) some in
+        let tracks : prime_tracks d k ≡ homes_of x / 32 = t.3 ∙ ap (λ p. get_or (prime_numbers p) 1 0) some in
         let far : first_track d k Prime ≡ 65535 → ⊥ = λ e. omega arith in
         let over : overflow_entry d k ≡ false = ap (λ b. b && eqb (prime_tracks d k) 65535) (ne_eqb (first_track d k Prime) 65535 far) in
         let whole_homes = whole.3 in
-        let homes : 32 * prime_tracks d k ≡ x.homes = omega arith in
-        same_band _ _ _ _ maps_back spares_back (cond-false (overflow_entry d k) _ _ over ∙ ap first_sector first ∙ first_back x.first low high whole.2) (cond-false (overflow_entry d k) _ _ over ∙ homes)
+        let homes : 32 * prime_tracks d k ≡ homes_of x = omega arith in
+        same_band _ (cond-false (overflow_entry d k) _ _ over ∙ same_extent _ _ _ _ (ap first_sector first ∙ first_back (first_home x) low high whole.2) homes ∙ sym some)
 
     band_back : band_at d k ≡ x
     band_back = ⊎_elim band_none band_some (cases_Bool (overflow x))
 
   none_back : (k : ℕ) → l.count ≤ k → no_band ≡ band_of l k
-  none_back k h =
-      let f = (and_parts (whole_tracks (band_of l k)) (ltb k l.count || unused (band_of l k)) (formed k)).1 in
-      let u : unused (band_of l k) ≡ true = ⊎_elim (λ t. absurd (both_ways _ (le-ltb _ _ h) t)) (λ t. t) (or_cases (ltb k l.count) (unused (band_of l k)) f) in
-      let y = band_of l k in
-      let two = and_parts (eqb y.maps 0 && eqb y.spares 0) (eqb y.first 0 && eqb y.homes 0) u in
-      let a = and_parts (eqb y.maps 0) (eqb y.spares 0) two.0 in
-      let b = and_parts (eqb y.first 0) (eqb y.homes 0) two.1 in
-      sym (same_parts y.maps y.spares y.first y.homes 0 0 0 0 (eqb-true _ _ a.0) (eqb-true _ _ a.1) (eqb-true _ _ b.0) (eqb-true _ _ b.1))
+  none_back k h = grind (arith, common_steps)
 
   count_back : band_count d ≡ l.count
   count_back = bytes 2 (omega arith) ∙ byte_count l 2 refl
 
   place_back : (k : ℕ) → band_or_none d k ≡ band_of l k
-  unfolding band_or_none
   place_back k =
       let e = count_back in
       ⊎_elim
@@ -212,7 +165,6 @@ module _ (l : Layout) (kept : valid l ≡ true) (eight : length l.bands ≡ 8) (
 
   -- the bytes give the layout
   pub layout_back : layout_in l.last d ≡ l
-  unfolding layout_in
   layout_back =
       let e = count_back in
       let bands : map (band_or_none d) (range_with_len 0 8) ≡ l.bands =
@@ -221,17 +173,14 @@ module _ (l : Layout) (kept : valid l ≡ true) (eight : length l.bands ≡ 8) (
       same_layout l.last (band_count d) (map (band_or_none d) (range_with_len 0 8)) l.count l.bands e bands
 
   pub identified_back : identified d ≡ true
-  identified_back = and_from _ _ (eq-eqb _ _ (bytes 0 (omega arith) ∙ byte_identifier l 0 (omega arith))) (eq-eqb _ _ (bytes 1 (omega arith) ∙ byte_identifier l 1 (omega arith)))
+  identified_back = grind (arith, common_steps)
 
 -- reading the bytes of a layout, for as many sectors, gives that layout
-pub read_back : (l : Layout) → valid l ≡ true → length l.bands ≡ 8 → ((k : ℕ) → band_formed l.count k (band_of l k) ≡ true) → (d : List ℕ) → ((i : ℕ) → i < 512 → get_or d i 0 ≡ sheet_byte l i) → reading_layout (sectors_for l.last) d ≡ Ok l
-read_back l v eight formed d bytes =
+pub read_back : (l : Layout) → valid l ≡ true → length l.bands ≡ 8 → ((k : ℕ) → band_formed l.count k (band_of l k) ≡ true) → (d : List ℕ) → d ≡ sheet_of l → reading_layout (sectors_for l.last) d ≡ Ok l
+read_back l v eight formed d e =
+    let bytes : (i : ℕ) → i < 512 → get_or d i 0 ≡ sheet_byte l i = λ i h. ap (λ xs. get_or xs i 0) e ∙ get_or-map-range_with_len (sheet_byte l) 0 512 i i 0 h (omega arith) in
     let low = last_low l v in
-    let high = (laid l v eight).small in
+    let high = (laid l v).small in
     let fit = tracks_fitting l.last low high in
     let same : l ≡ layout_in (last_track (sectors_for l.last)) d = sym (ap (λ n. layout_in n d) fit.1 ∙ layout_back l v eight formed d bytes) in
     sym (kept (sectors_for l.last) d l (sym fit.0) same (and_from _ _ (identified_back l v eight formed d bytes) v))
-
-pub written_so : (l : Layout) (d : List ℕ) → length d ≡ 512 → ((i : ℕ) → i < 512 → get_or d i 0 ≡ sheet_byte l i) → d ≡ sheet_of l
-unfolding sheet_of
-written_so l d long bytes = fill_by_all (sheet_byte l) d 512 0 long bytes

@@ -1,7 +1,9 @@
 -- The areas of a layout, in rising order of tracks.
-use Rattle.std.specs.Prelude.{◌≡◌, ℕ, zero, suc, ◌+◌, ◌-◌, ◌*◌, ◌/◌, ◌<◌, ◌≤◌, cond, not, ◌&&◌, List, [], ◌∷◌, ◌++◌, map, Some, None, Option, ◌==◌, slice_index_or}
+use Rattle.std.specs.Prelude.{◌≡◌, ℕ, ◌+◌, ◌-◌, ◌*◌, ◌/◌, ◌<◌, ◌≤◌, cond, not, ◌&&◌, List, [], ◌∷◌, map, Some, None, Option, ◌==◌}
+use Rattle.std.specs.List.{filter_map, range_with_len}
+use Rattle.std.specs.Option.{option_or}
 use mathlib.Core.List.{Memᴰ}
-use Rattle.maps.specs.Places.{band_of, bands_of, first_of, no_band, overflow, size_of}
+use Rattle.maps.specs.Places.{band_of, bands_of, first_home, first_of, overflow, size_of}
 use Rattle.maps.specs.declared.areas.Area.{Area}
 use Rattle.maps.specs.declared.bands.Band.{Band}
 use Rattle.maps.specs.declared.bands.Layout.{Layout}
@@ -13,41 +15,24 @@ use Rattle.medium.specs.Order.{Rising}
 abbrev pub area_of : ℕ → Purpose → ℕ → ℕ → Area
 area_of k a t n = record { first = t; last = t + (n - 1) / 32; band = k; purpose = a }
 
--- no band has more homes than a medium has sectors
-abbrev pub HomesFew : List Band → Type 0
-HomesFew bs = (k : ℕ) → (slice_index_or bs k no_band).homes ≤ 640064
-
 -- the area of band number k that begins on track t
 abbrev pub area_from : ℕ → Band → Purpose → ℕ → Area
 area_from k x a t = area_of k a t (size_of x a)
 
-unfoldable pub begun_in : ℕ → Band → ℕ → Option Area
+abbrev pub begun_in : ℕ → Band → ℕ → Option Area
 begun_in k x t =
     cond (x.maps == 32 * (t + 2)) (Some (area_from k x Map t))
     (cond (x.spares == 32 * (t + 2)) (Some (area_from k x Alternative t))
-    (cond (not (overflow x) && x.first == 32 * (t + 2)) (Some (area_from k x Prime t)) None))
-
-abbrev pub or_else : Option Area → Option Area → Option Area
-or_else (Some a) o = Some a
-or_else None o = o
+    (cond (not (overflow x) && first_home x == 32 * (t + 2)) (Some (area_from k x Prime t)) None))
 
 -- the area that begins on track t, of the bands from number k on
 abbrev pub begun : ℕ → List Band → ℕ → Option Area
 begun k [] t = None
-begun k (x ∷ xs) t = or_else (begun_in k x t) (begun (k + 1) xs t)
+begun k (x ∷ xs) t = option_or (begun_in k x t) (begun (k + 1) xs t)
 
-abbrev pub as_list : Option Area → List Area
-as_list (Some a) = a ∷ []
-as_list None = []
-
--- the areas that begin before track t, track by track
-abbrev pub areas_before : Layout → ℕ → List Area
-areas_before l zero = []
-areas_before l (suc t) = areas_before l t ++ as_list (begun 1 (bands_of l) t)
-
--- all areas of a layout
-unfoldable pub all_areas : Layout → List Area
-all_areas l = areas_before l (l.last + 1)
+-- all areas of a layout, track by track
+abbrev pub all_areas : Layout → List Area
+all_areas l = filter_map (begun 1 (bands_of l)) (range_with_len 0 (l.last + 1))
 
 -- an area of the layout, told by its band, its use, and its first and last track
 pub record AreaTold (l : Layout) (r : Area) : Type 0 where

@@ -4,3 +4,4 @@ pub mod Rules
 pub mod Reading
 pub mod Homes
 pub mod Areas
+pub mod Words

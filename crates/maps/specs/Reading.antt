@@ -1,5 +1,5 @@
 -- What reading a layout sheet answers.
-use Rattle.std.specs.Prelude.{◌≡◌, ℕ, ◌+◌, ◌-◌, ◌*◌, ◌/◌, ◌%◌, ◌<◌, ◌≤◌, Bool, true, cond, ◌&&◌, ◌⊎◌, List, Ok, Err, Result, ◌==◌, nat_le}
+use Rattle.std.specs.Prelude.{◌≡◌, ℕ, ◌+◌, ◌-◌, ◌*◌, ◌/◌, ◌%◌, ◌<◌, ◌≤◌, Bool, true, cond, ◌&&◌, ◌⊎◌, List, None, Ok, Err, Result, ◌==◌, nat_le}
 use Rattle.format.specs.Laws.{format_fault}
 use Rattle.maps.specs.Places.{band_of, first_of, no_band, size_of, valid}
 use Rattle.maps.specs.Rules.{LayoutRules, tracks_of}
@@ -25,7 +25,7 @@ abbrev pub given_layout : ℕ → List ℕ → Result Layout Fault
 given_layout n d = checked (identified d && valid (layout_in n d)) (layout_in n d)
 
 -- the number of sectors is tried first, and then the rules
-unfoldable pub reading_layout : ℕ → List ℕ → Result Layout Fault
+abbrev pub reading_layout : ℕ → List ℕ → Result Layout Fault
 reading_layout p d = cond (fits_format p) (given_layout (last_track p) d) (Err (format_fault WrongSectorCount 0))
 
 -- the same in words: n is the last track of a medium of p sectors
@@ -41,8 +41,8 @@ pub record LayoutGiven (n : ℕ) (d : List ℕ) (l : Layout) : Type 0 where
   -- each area begins with the first sector of its first track, and has all sectors of its tracks
   pub first : (k : ℕ) (a : Purpose) → k < band_count d → 1 ≤ tracks_of d k a → first_of (band_of l k) a ≡ 32 * (first_track d k a + 2)
   pub size : (k : ℕ) (a : Purpose) → k < band_count d → 1 ≤ tracks_of d k a → size_of (band_of l k) a ≡ 32 * tracks_of d k a
-  -- an overflow band has no home, and behind the last band stands none
-  pub without_prime : (k : ℕ) → k < band_count d → overflow_entry d k ≡ true → ((band_of l k).first ≡ 0) × ((band_of l k).homes ≡ 0)
+  -- an overflow band has no prime area, and behind the last band stands none
+  pub without_prime : (k : ℕ) → k < band_count d → overflow_entry d k ≡ true → (band_of l k).primes ≡ None
   pub no_more : (k : ℕ) → band_count d ≤ k → band_of l k ≡ no_band
 
 -- the sheet was read: it keeps the rules, and this is its layout

@@ -1,6 +1,9 @@
 // How a medium is divided: bands, each with its areas, given by sector numbers.
-ghost use Rattle.std.specs.Prelude.{◌≡◌, ◌+◌, ◌<◌, ◌≤◌};
-ghost use Rattle.maps.specs.Places.{apart, inside, overflow};
+ghost use Rattle.std.specs.Prelude.{◌≡◌, ◌+◌, ◌<◌, ◌*◌, ◌≤◌, Some, ◌==◌};
+ghost use Rattle.maps.specs.Words.{purpose_in_words};
+ghost use Rattle.maps.specs.Places.{apart, bands_of, homes_of, inside};
+
+use std::fmt;
 
 pub const MOST_BANDS: usize = 8;
 
@@ -26,17 +29,37 @@ pub enum Purpose {
     Prime,
 }
 
-// A band by the first sector of each area, and the number of its homes. An overflow band has 0 for the last two.
+impl fmt::Display for Purpose {
+    ghost output = { λ purpose. Some (purpose_in_words purpose) };
+
+    fn fmt<W: fmt::Write>(&self, f: &mut fmt::Formatter<W>) -> fmt::Result {
+        match self {
+            Purpose::Map => write!(f, "map"),
+            Purpose::Alternative => write!(f, "alternative"),
+            Purpose::Prime => write!(f, "prime"),
+        }
+    }
+}
+
+// Some sectors in a row: the first of them, and how many there are.
+#[derive(Clone, Copy, PartialEq, Eq, Debug)]
+pub struct Extent {
+    pub first: u32,
+    pub size: u32,
+}
+
+// A band by the first sector of its map area and of its alternative area, and by its prime area.
+// An overflow band has no prime area.
 #[derive(Clone, Copy, PartialEq, Eq, Debug)]
 pub struct Band {
     pub maps: u32,
     pub spares: u32,
-    pub first: u32,
-    pub homes: u32,
+    pub primes: Option<Extent>,
 }
 
 // The last track of the medium, and its bands. Behind the first `count` stands `NO_BAND`.
-#[derive(Clone, Copy, Debug)]
+// An array and a count: reading takes no heap, and the kit's `ArrayVec` is not `Copy`, as a layout is.
+#[derive(Clone, Copy, PartialEq, Eq, Debug)]
 pub struct Layout {
     pub last: u32,
     pub count: u32,
@@ -46,16 +69,8 @@ pub struct Layout {
 pub(crate) const NO_BAND: Band = Band {
     maps: 0,
     spares: 0,
-    first: 0,
-    homes: 0,
+    primes: None,
 };
-
-// Some sectors in a row: the first of them, and how many there are.
-#[derive(Clone, Copy)]
-pub(crate) struct Extent {
-    pub(crate) first: u32,
-    pub(crate) size: u32,
-}
 
 impl Extent {
     // The number behind the last sector.
@@ -68,14 +83,28 @@ impl Extent {
     pub(crate) fn is_apart(self, other: Extent) -> bool
         ensures { result ≡ apart self.first self.size other.first other.size }
     {
-        (self.end() <= u64::from(other.first)) | (other.end() <= u64::from(self.first))
+        self.end() <= u64::from(other.first) || other.end() <= u64::from(self.first)
+    }
+
+    // The sector at a place, from 0 on.
+    pub(crate) fn sector_at(self, place: u32) -> u32
+        requires { self.first + place < 640064 }
+        ensures { result ≡ self.first + place }
+    {
+        self.first + place
+    }
+
+    pub(crate) fn begins_on(self, track: u16) -> bool
+        ensures { result ≡ (self.first == 32 * (track + 2)) }
+    {
+        self.first == SECTORS_PER_TRACK * (u32::from(track) + TRACKS_BEFORE_ZERO)
     }
 
     // Whether it lies within the tracks 0 to the last, where `end` is the number behind their last sector.
     pub(crate) fn is_inside(self, end: u32) -> bool
         ensures { result ≡ inside end self.first self.size }
     {
-        (FIRST_SECTOR <= self.first) & (self.end() <= u64::from(end))
+        FIRST_SECTOR <= self.first && self.end() <= u64::from(end)
     }
 }
 
@@ -100,34 +129,20 @@ impl Band {
         }
     }
 
-    pub(crate) fn prime_area(self) -> Extent
-        ensures first { result.first ≡ self.first }
-        ensures size { result.size ≡ self.homes }
-    {
-        Extent {
-            first: self.first,
-            size: self.homes,
-        }
-    }
-
     pub(crate) fn home_count(self) -> u64
-        ensures value { result ≡ self.homes }
+        ensures value { result ≡ homes_of self }
         ensures small { result ≤ 4294967295 }
     {
-        u64::from(self.homes)
+        self.primes.map_or(0, |primes| u64::from(primes.size))
     }
+}
 
-    // The home of the band's own block of that number.
-    pub(crate) fn home_at(self, block: u32) -> u32
-        requires { self.first + block < 640064 }
-        ensures { result ≡ self.first + block }
+impl Layout {
+    // The first `count` of the bands.
+    pub(crate) fn bands_in_use(&self) -> &[Band]
+        requires { self.now.count ≤ 8 }
+        ensures { result.now ≡ bands_of self.now }
     {
-        self.first + block
-    }
-
-    pub(crate) fn is_overflow(self) -> bool
-        ensures { result ≡ overflow self }
-    {
-        self.homes == 0
+        &self.bands[..self.count as usize]
     }
 }

@@ -8,6 +8,6 @@ pub mod rules;
 pub mod sheet;
 
 pub use areas::Area;
-pub use bands::{Band, Layout, MOST_BANDS, Purpose};
+pub use bands::{Band, Extent, Layout, MOST_BANDS, Purpose};
+pub use format::{BLOCK_BYTES as SHEET_BYTES, Sheet};
 pub use maps::Maps;
-pub use sheet::SHEET_BYTES;

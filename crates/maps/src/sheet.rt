@@ -1,14 +1,13 @@
 // The 512 bytes of a layout sheet, read and written.
 ghost use Rattle.std.specs.Prelude.{◌≡◌, ◌+◌, ◌*◌, ◌<◌, ◌≤◌, true, length};
 ghost use Rattle.maps.specs.Places.{valid};
-ghost use Rattle.maps.specs.Sheets.{Writable, band_at, band_or_none, entry_byte, entry_number, first_sector, identified, layout_in, sheet_byte, track_of, two_at};
+ghost use Rattle.maps.specs.Sheets.{Writable, band_at, band_or_none, entry_byte, entry_numbers, first_sector, identified, layout_in, sheet_byte, track_of};
 
-use crate::bands::{Band, Layout, MOST_BANDS, NO_BAND, SECTORS_PER_TRACK};
+use crate::bands::{Band, Extent, Layout, NO_BAND, SECTORS_PER_TRACK};
 use crate::maps::Maps;
-use format::{Address, address_of, number_of};
-use medium::MOST_SECTORS;
-
-pub const SHEET_BYTES: usize = 512;
+use format::{Address, Sheet, address_of, number_of};
+use medium::{MOST_SECTORS, two_at};
+use std::array;
 
 // The first bytes of every sheet.
 const IDENTIFIER: [u8; 2] = [0x00, 0x00];
@@ -20,24 +19,15 @@ const ENTRIES_AT: usize = 3;
 const ENTRY_BYTES: usize = 8;
 
 // What stands behind the last entry.
-pub(crate) const FILLER: u8 = 0xFF;
+const FILLER: u8 = 0xFF;
 
 // What stands in an overflow band in place of the first prime track and of the number of prime tracks.
 const NO_PRIME: u16 = 0xFFFF;
 
-pub(crate) fn is_identified(sheet: &[u8]) -> bool
-    requires { length sheet.now ≡ 512 }
+pub(crate) fn is_identified(sheet: &Sheet) -> bool
     ensures { result ≡ identified sheet.now }
 {
-    (sheet[0] == IDENTIFIER[0]) & (sheet[1] == IDENTIFIER[1])
-}
-
-// The number in the two bytes at `at`.
-fn two_at(sheet: &[u8], at: usize) -> u16
-    requires { at + 1 < length sheet.now }
-    ensures { result ≡ two_at sheet.now at }
-{
-    u16::from_be_bytes([sheet[at], sheet[at + 1]])
+    sheet.starts_with(&IDENTIFIER)
 }
 
 // The first sector of a track. A track that no medium has begins behind the last sector of any.
@@ -52,8 +42,8 @@ fn first_sector(track: u16) -> u32
 }
 
 // The band in the entry `k`.
-fn band_at(sheet: &[u8], k: usize) -> Band
-    requires { (length sheet.now ≡ 512) × (k < 8) }
+fn band_at(sheet: &Sheet, k: usize) -> Band
+    requires { k < 8 }
     ensures { result ≡ band_at sheet.now k }
 {
     let at = ENTRY_BYTES * k + ENTRIES_AT;
@@ -61,25 +51,27 @@ fn band_at(sheet: &[u8], k: usize) -> Band
     let spares = first_sector(two_at(sheet, at + 2));
     let prime_track = two_at(sheet, at + 4);
     let prime_tracks = two_at(sheet, at + 6);
-    if (prime_track == NO_PRIME) & (prime_tracks == NO_PRIME) {
+    if prime_track == NO_PRIME && prime_tracks == NO_PRIME {
         return Band {
             maps,
             spares,
-            first: 0,
-            homes: 0,
+            primes: None,
         };
     }
+    let primes = Extent {
+        first: first_sector(prime_track),
+        size: SECTORS_PER_TRACK * u32::from(prime_tracks),
+    };
     Band {
         maps,
         spares,
-        first: first_sector(prime_track),
-        homes: SECTORS_PER_TRACK * u32::from(prime_tracks),
+        primes: Some(primes),
     }
 }
 
 // What stands at place `k` of a layout's eight.
-fn band_or_none(sheet: &[u8], k: usize) -> Band
-    requires { (length sheet.now ≡ 512) × (k < 8) }
+fn band_or_none(sheet: &Sheet, k: usize) -> Band
+    requires { k < 8 }
     ensures { result ≡ band_or_none sheet.now k }
 {
     if k < usize::from(sheet[COUNT_AT]) {
@@ -90,16 +82,14 @@ fn band_or_none(sheet: &[u8], k: usize) -> Band
 }
 
 // The layout that the sheet gives to a medium with the last track `last`.
-pub(crate) fn layout_in(last: u32, sheet: &[u8]) -> Layout
-    requires { length sheet.now ≡ 512 }
+pub(crate) fn layout_in(last: u32, sheet: &Sheet) -> Layout
     ensures { result ≡ layout_in last sheet.now }
 {
-    let count = u32::from(sheet[COUNT_AT]);
-    let mut bands = [NO_BAND; MOST_BANDS];
-    for k in 0..MOST_BANDS {
-        bands[k] = band_or_none(sheet, k);
+    Layout {
+        last,
+        count: u32::from(sheet[COUNT_AT]),
+        bands: array::from_fn(|k| band_or_none(sheet, k)),
     }
-    Layout { last, count, bands }
 }
 
 // The track that begins with a sector.
@@ -107,46 +97,39 @@ pub(crate) fn track_of(sector: u32) -> u16
     requires { (64 ≤ sector) × (sector < 640064) }
     ensures { result ≡ track_of sector }
 {
-    match address_of::<Maps>(sector) {
-        Some(address) => address.track as u16,
-        None => 0,
-    }
+    let Some(address) = address_of::<Maps>(sector) else {
+        unreachable()
+    };
+    address.track as u16
 }
 
 // The four numbers of a band's entry.
-fn entry_number(band: Band, i: usize) -> u16
+fn entry_numbers(band: Band) -> [u16; 4]
     requires { Writable band }
-    ensures { result ≡ entry_number band i }
+    ensures { result ≡ entry_numbers band }
 {
-    if i == 0 {
-        track_of(band.maps)
-    } else if i == 1 {
-        track_of(band.spares)
-    } else if band.is_overflow() {
-        NO_PRIME
-    } else if i == 2 {
-        track_of(band.first)
-    } else {
-        (band.homes / SECTORS_PER_TRACK) as u16
-    }
+    let (first, tracks) = match band.primes {
+        Some(primes) => (
+            track_of(primes.first),
+            (primes.size / SECTORS_PER_TRACK) as u16,
+        ),
+        None => (NO_PRIME, NO_PRIME),
+    };
+    [track_of(band.maps), track_of(band.spares), first, tracks]
 }
 
 // The byte `j` of the eight of a band's entry: of each number the most significant byte first.
 fn entry_byte(band: Band, j: usize) -> u8
-    requires { Writable band }
+    requires fitting { Writable band }
+    requires place { j < 8 }
     ensures { result ≡ entry_byte band j }
 {
-    let number = entry_number(band, j / 2);
-    if j % 2 == 0 {
-        (number / 256) as u8
-    } else {
-        (number % 256) as u8
-    }
+    entry_numbers(band)[j / 2].to_be_bytes()[j % 2]
 }
 
 // The byte `at` of the sheet of a valid layout.
 pub(crate) fn sheet_byte(layout: &Layout, at: usize) -> u8
-    requires { (valid layout.now ≡ true) × (length layout.now.bands ≡ 8) }
+    requires { valid layout.now ≡ true }
     ensures { result ≡ sheet_byte layout.now at }
 {
     if at < COUNT_AT {
@@ -155,10 +138,9 @@ pub(crate) fn sheet_byte(layout: &Layout, at: usize) -> u8
     if at == COUNT_AT {
         return layout.count as u8;
     }
-    let k = (at - ENTRIES_AT) / ENTRY_BYTES;
-    if k < layout.count as usize {
-        entry_byte(layout.bands[k], (at - ENTRIES_AT) % ENTRY_BYTES)
-    } else {
-        FILLER
+    let place = at - ENTRIES_AT;
+    match layout.bands_in_use().get(place / ENTRY_BYTES) {
+        Some(band) => entry_byte(*band, place % ENTRY_BYTES),
+        None => FILLER,
     }
 }

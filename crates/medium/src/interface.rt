@@ -45,6 +45,7 @@ pub trait Medium {
         ensures { result ≡ length (sectors self.now) };
 
     // Fills the image with the bytes of a sound sector, and leaves it as it was otherwise.
+    // The bytes are no part of the answer: a medium fills the caller's memory, and refuses one of another length.
     fn read(&self, sector: u32, image: &mut [u8]) -> Result<Reading, Fault>
         ensures answer { result ≡ reading (sectors self.now) sector (length image.old) }
         ensures image { image.new ≡ image_after (sectors self.now) sector image.old };

@@ -14,6 +14,8 @@ use format::{Block, burn_blank, shows};
 use medium::{Fault, Medium, Reading};
 use pointers::Pointers;
 
+// Layout and medium go side by side here, and not as in `OnMedium`: each burn would have to show anew that they fit.
+
 // Burns the spare for the home if it is blank; whether the block then rests there.
 fn try_spare<M: Medium>(medium: &mut M, spare: u32, home: u32, bytes: &Block) -> Result<bool, Fault>
     requires inside { (spare < length (M.Medium.sectors medium.old)) × (spare < 620000) }

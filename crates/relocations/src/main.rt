@@ -105,7 +105,8 @@ fn print_spare(
     Ok(())
 }
 
-// Two groups of 40 homes and 5 spares, and a track of secondary spares behind them.
+// Two groups of 40 homes and 5 spares, and a track of secondary spares behind them. Each program has its own example:
+// a crate for eleven numbers would be no plainer.
 fn pointers_sheet() -> [u8; 512] {
     let mut sheet = [0xFF; 512];
     sheet[0..14].copy_from_slice(&[0x0A, 0x0A, 3, 0x10, 0, 2, 0, 0, 0, 40, 0, 0, 0, 5]);

@@ -1,7 +1,7 @@
 // One layout of each format, by its areas in rising order, as a person would want to see them.
 use anyhow::anyhow;
 use format::{Address, address_of};
-use maps::{Maps, Purpose as BandPurpose};
+use maps::Maps;
 use pointers::Pointers;
 
 // Ten tracks of 31 sectors.
@@ -15,7 +15,8 @@ pub(crate) fn print_layouts(rt: &HostRuntime) -> anyhow::Result<()> {
     print_maps(rt)
 }
 
-// Two groups of 40 homes and 5 spares, and a track of secondary spares behind them.
+// Two groups of 40 homes and 5 spares, and a track of secondary spares behind them. Each program has its own example:
+// a crate for eleven numbers would be no plainer.
 fn pointers_sheet() -> [u8; 512] {
     let mut sheet = [0xFF; 512];
     sheet[0..14].copy_from_slice(&[0x0A, 0x0A, 3, 0x10, 0, 2, 0, 0, 0, 40, 0, 0, 0, 5]);
@@ -56,19 +57,11 @@ fn print_maps(rt: &HostRuntime) -> anyhow::Result<()> {
     for area in layout.areas(rt.alloc())?.iter() {
         let first = area.first;
         let last = area.last;
-        let used = word(area.purpose);
+        let used = area.purpose;
         let band = area.band;
         println!(rt; "  tracks {first} to {last}: {used} area of band {band}")?;
     }
     Ok(())
-}
-
-fn word(purpose: BandPurpose) -> &'static str {
-    match purpose {
-        BandPurpose::Map => "map",
-        BandPurpose::Alternative => "alternative",
-        BandPurpose::Prime => "prime",
-    }
 }
 
 // A sector of Format A as track and place.

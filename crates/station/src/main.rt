@@ -69,7 +69,7 @@ fn test_roll(rt: &HostRuntime, plan: &[Burn]) -> anyhow::Result<Account> {
     Ok(account)
 }
 
-// The bench test, whatever the medium.
+// The bench test, whatever the medium. Only opening and closing differ, in what they are given and hand back.
 fn test_medium<M: Medium>(
     rt: &HostRuntime,
     medium: &mut M,

@@ -12,7 +12,7 @@ impl Maps {
         ensures count { result ≡ blocks self.now.layout }
         ensures homes { HomesPlaced self.now.layout }
     {
-        homes_in(&self.layout.bands[..self.layout.count as usize]) as u32
+        homes_in(self.bands()) as u32
     }
 
     // The home of a block. Blocks number the prime sectors, band by band.
@@ -22,12 +22,14 @@ impl Maps {
         ensures homes { HomesPlaced self.now.layout }
     {
         let mut rest = block;
-        for i in 0..self.layout.count as usize {
-            let band = self.layout.bands[i];
-            if rest < band.homes {
-                return band.home_at(rest);
+        for band in self.bands() {
+            let Some(primes) = band.primes else {
+                continue;
+            };
+            if rest < primes.size {
+                return primes.sector_at(rest);
             }
-            rest -= band.homes;
+            rest -= primes.size;
         }
         unreachable()
     }

@@ -12,14 +12,10 @@ impl Maps {
         ensures list { IfOk result (λ v. v.items ≡ all_areas self.now.layout) }
         ensures areas { IfOk result (λ v. AreasListed self.now.layout v.items) }
     {
-        let bands = &self.layout.bands[..self.layout.count as usize];
-        let mut areas = Vec::new(heap);
-        for track in 0..self.layout.last + 1 {
-            let Some(area) = begun(bands, track) else {
-                continue;
-            };
-            areas.push(area)?;
-        }
-        Ok(areas)
+        let bands = self.bands();
+        // No lemma of the library lists what `0..=last` gives.
+        (0..self.layout.last as u16 + 1)
+            .filter_map(|track| begun(bands, track))
+            .collect(heap)
     }
 }

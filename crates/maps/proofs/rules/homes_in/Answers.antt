@@ -1,13 +1,9 @@
-use Rattle.std.proofs.Common.{arith}
-use Rattle.std.proofs.lemmas.List.{at_drop_all, at_drop_more}
-use Rattle.maps.specs.Places.{block_count, no_band}
+use Rattle.std.proofs.Common.{◌≡◌, rules, sum_by, sym, refl, ◌∙◌}
+use Rattle.std.proofs.lemmas.List.Recursion.{is_sum_by}
+use Rattle.maps.specs.Places.{block_count, homes_of}
 use Rattle.maps.proofs.rules.homes_in.Goals as goal
-
-pub loop-band-preserved : goal.loop-band-preserved
-loop-band-preserved c =
-    let step = at_drop_more block_count c.args.bands.now c.loop-band.band-index no_band c.loop-band-test.true in
-    (omega (arith, step, c.loop-band.invariant.0, c.home_count-homes.ensures.value), omega (arith, c.loop-band.invariant.1, c.home_count-homes.ensures.small))
 
 pub returns : goal.returns
 returns c =
-    omega (arith, at_drop_all block_count c.args.bands.now c.loop-band.band-index c.loop-band-test.false, c.loop-band.invariant.0)
+    let total : c.sum.result ≡ sum_by homes_of c.args.bands.now = search rules in
+    total ∙ sym (is_sum_by block_count homes_of refl (λ _ _. refl) c.args.bands.now)

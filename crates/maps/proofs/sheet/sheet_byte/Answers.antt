@@ -1,25 +1,15 @@
-use Rattle.std.proofs.Common.{sym, ◌∙◌, arith}
-use Rattle.std.proofs.lemmas.List.{get_or-replicate}
-use Rattle.maps.proofs.Written.{bands_few, byte_count, byte_entry, byte_filler, byte_identifier, writable}
+use Rattle.std.proofs.Common.{◌≡◌, ◌-◌, ◌/◌, ◌<◌, length, sym, ap, subst, arith}
+use Rattle.maps.proofs.Found.{band_found, long}
+use Rattle.maps.proofs.Written.{writable}
+use Rattle.maps.specs.Places.{no_band}
+use Rattle.maps.specs.Sheets.{Writable}
 use Rattle.maps.proofs.sheet.sheet_byte.Goals as goal
 
-pub returns-then-at-lt-COUNT_AT : goal.returns-then-at-lt-COUNT_AT
-returns-then-at-lt-COUNT_AT c = get_or-replicate 2 c.args.at 0 0 c.if-at-lt-COUNT_AT.true ∙ sym (byte_identifier c.args.layout.now c.args.at c.if-at-lt-COUNT_AT.true)
-
-pub overflow_cast-result : goal.overflow_cast-result
-overflow_cast-result c = let few = bands_few c.args.layout.now c.requires.0 c.requires.1 in omega arith
-
-pub returns-then-at-eq-COUNT_AT : goal.returns-then-at-eq-COUNT_AT
-returns-then-at-eq-COUNT_AT c = sym (byte_count c.args.layout.now c.args.at (omega arith))
-
-pub bounds-layout-k : goal.bounds-layout-k
-bounds-layout-k c = let few = bands_few c.args.layout.now c.requires.0 c.requires.1 in omega arith
-
-pub entry_byte-requires : goal.entry_byte-requires
-entry_byte-requires c = writable c.args.layout.now c.requires.0 c.requires.1 _ (omega arith)
-
-pub returns-then-k-layout : goal.returns-then-k-layout
-returns-then-k-layout c = c.entry_byte.ensures ∙ sym (byte_entry c.args.layout.now c.args.at (omega arith) (omega arith))
-
-pub returns-else-k-layout : goal.returns-else-k-layout
-returns-else-k-layout c = sym (byte_filler c.args.layout.now c.args.at (omega arith) (omega arith))
+pub entry_byte-requires-clause-fitting : goal.entry_byte-requires-clause-fitting
+entry_byte-requires-clause-fitting c =
+    let l = c.args.layout.now in
+    let eight : length l.bands ≡ 8 = omega arith in
+    let many = long l c.requires eight in
+    let within = c.in-Some.ensures.lookup.3.0 in
+    let known : (c.args.at - 3) / 8 < l.count = omega (arith, ap length c.bands_in_use.ensures) in
+    subst Writable (sym (band_found l _ _ _ c.bands_in_use.ensures known (c.in-Some.ensures.lookup.3.1 no_band))) (writable l c.requires eight _ known)

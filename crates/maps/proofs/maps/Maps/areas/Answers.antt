@@ -1,36 +1,17 @@
-use Rattle.std.proofs.Common.{◌≡◌, ◌+◌, vec_items, sym, ap, ◌∙◌, arith}
-use Rattle.maps.proofs.Found.{laid}
-use Rattle.maps.proofs.Listed.{homes_few, listed_none, listed_some}
+use Rattle.std.proofs.Common.{◌≡◌, ◌+◌, length, rules, IfOk, arith}
+use Rattle.std.proofs.lemmas.Iterator.{YieldsList-from_range, items_from_collect}
+use Rattle.std.proofs.lemmas.Iterator.Consumers.{YieldsList-from_filter_map}
+use Rattle.std.proofs.lemmas.Result.{IfOk-weaker}
 use Rattle.maps.proofs.Tracks.{areas_listed}
-use Rattle.maps.specs.Areas.{all_areas, areas_before}
+use Rattle.maps.specs.Areas.{AreasListed, all_areas, begun}
+use Rattle.maps.specs.Places.{bands_of}
 use Rattle.maps.proofs.maps.Maps.areas.Goals as goal
 
-pub shared_ref_as_front-bands : goal.shared_ref_as_front-bands
-shared_ref_as_front-bands c = let m = c.args.self.now in (laid m.layout m.kept m.eight).few
-
-pub overflow_add-track-end : goal.overflow_add-track-end
-overflow_add-track-end c = let m = c.args.self.now in let s = (laid m.layout m.kept m.eight).small in omega arith
-
-pub begun-requires : goal.begun-requires
-begun-requires c =
+pub returns-clause-areas : goal.returns-clause-areas
+returns-clause-areas c =
     let m = c.args.self.now in
-    let g = laid m.layout m.kept m.eight in
-    let small = g.small in
-    let few = g.few in
-    let long = g.long in
-    (omega arith, (omega arith, homes_few m.layout m.kept m.eight))
-
-pub returns : goal.returns
-unfolding all_areas
-returns c =
-    let m = c.args.self.now in
-    let same : c.loop-track.track ≡ m.layout.last + 1 = omega arith in
-    let list : vec_items c.loop-track.areas ≡ all_areas m.layout = c.loop-track.invariant ∙ ap (areas_before m.layout) same in
-    record { list = list; areas = areas_listed m.layout m.kept m.eight m.formed (vec_items c.loop-track.areas) list }
-
-pub loop-track-preserved-in_default : goal.loop-track-preserved-in_default
-loop-track-preserved-in_default c = listed_none c.args.self.now.layout c.loop-track.track (sym c.in_default.is ∙ c.begun.ensures) _ c.loop-track.invariant
-
-pub loop-track-preserved : goal.loop-track-preserved
-loop-track-preserved c =
-    c.in_ok-push.ensures.items ∙ listed_some c.args.self.now.layout c.loop-track.track c.in-Some.area (sym c.in-Some.is ∙ c.begun.ensures) _ c.loop-track.invariant
+    let eight : length m.layout.bands ≡ 8 = omega arith in
+    let same = c.bands-bands.ensures.bands in
+    let list : IfOk c.collect.result (λ v. v.items ≡ all_areas m.layout) =
+    items_from_collect c.collect.result c.collect.ensures.ran (YieldsList-from_filter_map _ (begun 1 (bands_of m.layout)) (YieldsList-from_range 0 (m.layout.last + 1) (m.layout.last + 1) (cc) (omega arith)) c.filter_map.ensures.closure (λ x r q k. search (rules, same))) in
+    IfOk-weaker c.collect.result (λ v. v.items ≡ all_areas m.layout) (λ v. AreasListed m.layout v.items) (λ v e. areas_listed m.layout m.kept eight m.formed v.items e) list

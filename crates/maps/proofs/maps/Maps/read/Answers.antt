@@ -1,41 +1,29 @@
-use Rattle.std.proofs.Common.{◌≡◌, Bool, ◌&&◌, ◌∙◌}
-use Rattle.std.proofs.lemmas.Bool.{and_parts}
-use Rattle.maps.proofs.Formed.{broken, kept, read_formed, read_laid, unfitting}
-use Rattle.maps.proofs.Told.{read_as, refused_rules, refused_size}
+use Rattle.std.proofs.Common.{◌≡◌, ◌&&◌, sym, ap, ◌∙◌}
+use Rattle.maps.proofs.Formed.{read_formed}
+use Rattle.maps.proofs.Told.{read_as, refused_rules}
 use Rattle.maps.specs.Places.{valid}
 use Rattle.maps.specs.Sheets.{identified}
 use Rattle.maps.proofs.maps.Maps.read.Goals as goal
+use Rattle.maps.proofs.maps.Maps.read.Goals.{then-is_identified, else-is_identified}
 
-pub returns-then-not-fits_format : goal.returns-then-not-fits_format
-returns-then-not-fits_format c = record { answer = unfitting c.args.sectors c.args.sheet.now _ c.if-not-fits_format.ensures c.refuses.ensures; rules = refused_size c.args.sectors c.args.sheet.now _ c.if-not-fits_format.ensures c.refuses.ensures }
-
-pub is_valid-requires : goal.is_valid-requires
-is_valid-requires c = read_laid c.args.sectors c.args.sheet.now _ c.if-not-fits_format.ensures c.layout_in-layout.ensures
-
--- both tests, as the definition has them
-tested : (r s : Bool) (i v : Bool) → r ≡ i → s ≡ v → (i && v) ≡ (r && s)
-tested r s i v e f = cc
-
-pub returns-then-not-is_identified-is_valid : goal.returns-then-not-is_identified-is_valid
-returns-then-not-is_identified-is_valid c =
-    record { answer = broken c.args.sectors c.args.sheet.now _ _ c.if-not-fits_format.ensures c.layout_in-layout.ensures (tested _ _ _ _ c.is_identified.ensures c.is_valid.ensures ∙ c.if-not-is_identified-is_valid.true) c.refuses-then-not-is_identified-is_valid.ensures; rules = refused_rules c.args.sectors c.args.sheet.now _ _ c.if-not-fits_format.ensures c.layout_in-layout.ensures (tested _ _ _ _ c.is_identified.ensures c.is_valid.ensures ∙ c.if-not-is_identified-is_valid.true) c.refuses-then-not-is_identified-is_valid.ensures }
-
-pub invariant_of-result : goal.invariant_of-result
-invariant_of-result c =
+pub returns-then-not-is_valid-clause-rules : goal.returns-then-not-is_valid-clause-rules
+returns-then-not-is_valid-clause-rules c =
     let d = c.args.sheet.now in
-    let t = tested _ _ _ _ c.is_identified.ensures c.is_valid.ensures ∙ c.if-not-is_identified-is_valid.false in
-    let laid = read_laid c.args.sectors d _ c.if-not-fits_format.ensures c.layout_in-layout.ensures in
-    record {
-      kept = (and_parts (identified d) (valid c.layout_in-layout.result) t).1;
-      eight = laid.1.1;
-      formed = read_formed _ d _ c.layout_in-layout.ensures;
-    }
+    let tests : c.if-is_identified.value ≡ (identified d && valid c.layout_in-layout.result) = elim c.if-is_identified.branch [
+      | then-is_identified w ↦ w.value-is ∙ w.is_valid.ensures ∙ ap (λ t. t && valid c.layout_in-layout.result) w.if-is_identified.ensures
+      | else-is_identified w ↦ w.value-is ∙ w.if-is_identified.false ∙ ap (λ t. t && valid c.layout_in-layout.result) w.if-is_identified.ensures
+    ] in
+    refused_rules c.args.sectors d _ _ c.if-not-fits_format.ensures c.layout_in-layout.ensures (sym tests ∙ c.if-not-is_valid.true) c.refuses-then-not-is_valid.ensures
 
-pub returns : goal.returns
-returns c =
-    let t = tested _ _ _ _ c.is_identified.ensures c.is_valid.ensures ∙ c.if-not-is_identified-is_valid.false in
-    let parts = read_as c.args.sectors c.args.sheet.now _ c.if-not-fits_format.ensures c.layout_in-layout.ensures t in
-    record {
-      answer = kept c.args.sectors c.args.sheet.now _ c.if-not-fits_format.ensures c.layout_in-layout.ensures t;
-      rules = record { tracks = parts.0; rules = parts.1; given = parts.2 };
-    }
+pub invariant_of-result-clause-formed : goal.invariant_of-result-clause-formed
+invariant_of-result-clause-formed c = read_formed _ c.args.sheet.now _ c.layout_in-layout.ensures
+
+pub returns-clause-rules : goal.returns-clause-rules
+returns-clause-rules c =
+    let d = c.args.sheet.now in
+    let tests : c.if-is_identified.value ≡ (identified d && valid c.layout_in-layout.result) = elim c.if-is_identified.branch [
+      | then-is_identified w ↦ w.value-is ∙ w.is_valid.ensures ∙ ap (λ t. t && valid c.layout_in-layout.result) w.if-is_identified.ensures
+      | else-is_identified w ↦ w.value-is ∙ w.if-is_identified.false ∙ ap (λ t. t && valid c.layout_in-layout.result) w.if-is_identified.ensures
+    ] in
+    let parts = read_as c.args.sectors d _ c.if-not-fits_format.ensures c.layout_in-layout.ensures (sym tests ∙ c.if-not-is_valid.false) in
+    record { tracks = parts.0; rules = parts.1; given = parts.2 }
