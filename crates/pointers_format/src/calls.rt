@@ -55,7 +55,8 @@ impl FormatA {
         Ok(())
     }
 
-    // Stores a block, or refuses it by 14 where no place was left to it.
+    // Stores a block, or refuses it by 14 where no place was left to it. Apart from `store`, so that what that means is
+    // shown once, whatever way this ends.
     fn record<M: Medium>(&self, medium: &mut M, block: u32, bytes: &Block) -> Result<(), Fault>
         requires there { block < blocks_of self.now }
         requires unwritten { blank_at (M.Medium.sectors medium.old) (home_of self.now block) ≡ true }

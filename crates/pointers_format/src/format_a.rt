@@ -19,6 +19,7 @@ pub struct FormatA {
     pub(crate) geometry: Pointers,
 }
 
+// The addressing of `Pointers`: a format is an addressing, and this type is another.
 impl Addressing for FormatA {
     const SECTORS_PER_TRACK: u32 = SECTORS_A_TRACK;
 

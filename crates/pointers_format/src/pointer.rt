@@ -17,7 +17,8 @@ type Pointer = [u8; 4];
 
 pub(crate) type Tail = [u8; 12];
 
-// Two bytes of track, one for the place on it, and (FF).
+// Two bytes of track, one for the place on it, and (FF). What is required of a sector's number its caller knows; a type
+// for such numbers would have to be made anew wherever one is read or counted.
 fn pointer_to(sector: u32) -> Pointer
     requires { sector < 620000 }
     ensures { result ≡ pointer_to sector }
@@ -27,7 +28,7 @@ fn pointer_to(sector: u32) -> Pointer
     [high, low, address.sector as u8, FILLER]
 }
 
-// A pointer to the sector itself, and twice one to another.
+// A pointer to the sector itself, and twice one to another. Byte by byte: cutting slices would say no more.
 fn tail_of(own: Pointer, other: Pointer) -> Tail
     ensures { result ≡ own ++ (other ++ other) }
 {

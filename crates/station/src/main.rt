@@ -103,10 +103,9 @@ fn open_roll(rt: &HostRuntime, memory: Vec<u8>) -> anyhow::Result<Roll> {
 
 // The bytes of a blank roll: a verdict for each sector, and slots that are not used.
 fn blank_roll(heap: Global) -> Result<Vec<u8>, AllocError> {
-    let mut memory = Vec::new(heap);
-    for sector in 0..SECTORS {
-        memory.push(u8::from(is_weak(sector)))?;
-    }
+    let mut memory: Vec<u8> = (0..SECTORS)
+        .map(|sector| u8::from(is_weak(sector)))
+        .collect(heap)?;
     let unused = vec![in heap; 0xFFu8; (BYTES_A_SECTOR - 1) * SECTORS as usize]?;
     memory.extend_from_slice(unused.as_slice())?;
     Ok(memory)

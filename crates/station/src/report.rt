@@ -50,13 +50,17 @@ pub(crate) fn print_account(
 
 // How many sectors of the run proved sound, and which proved weak.
 fn print_run(rt: &HostRuntime, run: &Run, plan: &[Burn], account: &Account) -> anyhow::Result<()> {
-    let mut sound = 0u32;
+    let sectors = run.sectors();
+    let sound = plan
+        .iter()
+        .zip(account.burnt.iter())
+        .filter(|(burn, answer)| sectors.contains(&burn.sector)
+            && matches!(answer, Ok(Verdict::Sound)))
+        .count();
     let mut weak = Vec::new(rt.alloc());
     for (burn, answer) in plan.iter().zip(account.burnt.iter()) {
-        match answer {
-            Ok(Verdict::Sound) if run.holds(burn.sector) => sound = sound.saturating_add(1),
-            Ok(Verdict::Weak) if run.holds(burn.sector) => weak.push(burn.sector)?,
-            _ => {}
+        if sectors.contains(&burn.sector) && matches!(answer, Ok(Verdict::Weak)) {
+            weak.push(burn.sector)?;
         }
     }
     let name = run.name;
@@ -90,7 +94,7 @@ pub(crate) fn print_why_not(rt: &HostRuntime, why: WhyNot) -> io::Result<()> {
     }
 }
 
-// What a medium refuses; the other refusals come from layers that the bench test does not reach.
+// What a medium refuses, in the words of this test; the other refusals come from layers that the bench test does not reach.
 fn meaning(refusal: Refusal) -> &'static str {
     match refusal {
         Refusal::WrongMemory => "the memory has not the medium's length",

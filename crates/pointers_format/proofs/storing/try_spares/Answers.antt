@@ -16,7 +16,7 @@ use Rattle.pointers_format.proofs.storing.try_spares.Goals as goal
 pub try_spare-requires : goal.try_spare-requires
 try_spare-requires g c =
     let geometry = c.args.geometry.now in
-    let all = c.into_iter-spare-iterator.ensures.into_iter_gives ∙ c.candidates-spare-items.ensures in
+    let all = c.into_iter-spare-iterator.ensures.into_iter_gives ∙ c.candidates-spare-items.ensures.list in
     let listed = subst (Memᴰ c.in-Some.spare) all (turn_within _ _ _ c.loop-spare.yielded_by _ _ c.in-Some.ensures.steps) in
     let k = inside geometry (g.M.Medium.sectors c.args.medium.now) c.requires.sized c.args.block c.requires.there c.in-Some.spare listed in
     let m = c.loop-spare.invariant.as_many in
@@ -35,7 +35,7 @@ loop-spare-preserved g c =
     let b = c.args.block in
     let ps = spares_of geometry.layout b in
     let s = g.M.Medium.sectors c.loop-spare.medium in
-    let all = c.into_iter-spare-iterator.ensures.into_iter_gives ∙ c.candidates-spare-items.ensures in
+    let all = c.into_iter-spare-iterator.ensures.into_iter_gives ∙ c.candidates-spare-items.ensures.list in
     let at = turn_in _ _ _ c.loop-spare.yielded_by ps all _ _ c.in-Some.ensures.steps in
     let was = c.in_ok-try_spare.was in
     let answer = c.try_spare.ensures.answer in
@@ -49,7 +49,7 @@ returns-then-branch g c =
     let geometry = c.args.geometry.now in
     let ps = spares_of geometry.layout c.args.block in
     let s = g.M.Medium.sectors c.loop-spare.medium in
-    let all = c.into_iter-spare-iterator.ensures.into_iter_gives ∙ c.candidates-spare-items.ensures in
+    let all = c.into_iter-spare-iterator.ensures.into_iter_gives ∙ c.candidates-spare-items.ensures.list in
     let at = turn_in _ _ _ c.loop-spare.yielded_by ps all _ _ c.in-Some.ensures.steps in
     let was = c.in_ok-try_spare.was in
     let answer = c.try_spare.ensures.answer in
@@ -60,6 +60,6 @@ returns-then-branch g c =
 
 pub returns : goal.returns
 returns g c =
-    let all = c.into_iter-spare-iterator.ensures.into_iter_gives ∙ c.candidates-spare-items.ensures in
+    let all = c.into_iter-spare-iterator.ensures.into_iter_gives ∙ c.candidates-spare-items.ensures.list in
     let d = trying_done _ _ _ _ _ _ c.loop-spare.invariant (turn_past _ _ _ c.loop-spare.yielded_by (spares_of c.args.geometry.now.layout c.args.block) all c.in-None.ensures.steps.0) in
     record { answer = ap Ok d.1; after = d.0 }
