@@ -2,6 +2,7 @@
 // sectors: the three runs of a ranging evening are burnt, read back and compared, and what must be refused is tried.
 #![tactic(auto)]
 
+use crate::report::Trial;
 use anyhow::anyhow;
 use bench::{Account, agree, bench_test};
 use medium::{Burn, Medium};
@@ -77,7 +78,11 @@ fn test_medium<M: Medium>(
 ) -> anyhow::Result<Account> {
     report::print_lowest_burnt(rt, medium)?;
     let account = bench_test(rt.alloc(), medium, plan)?;
-    report::print_account(rt, plan, &account)?;
+    let trial = Trial {
+        plan,
+        account: &account,
+    };
+    trial.print(rt)?;
     Ok(account)
 }
 
