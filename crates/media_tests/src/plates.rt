@@ -4,6 +4,7 @@ use plate::{CELL_BYTES, Flaw, Plate};
 use std::alloc::{AllocError, Global};
 use std::test::Fail;
 
+// A line for each crate of tests: one for both would be a crate of its own.
 fn flaw(offset: u32, length: u32) -> Flaw {
     Flaw { offset, length }
 }

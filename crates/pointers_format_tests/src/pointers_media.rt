@@ -25,6 +25,7 @@ fn plate(heap: Global, flaws: &[Flaw]) -> Result<Option<Plate>, AllocError> {
     }
 }
 
+// A line for each crate of tests: one for both would be a crate of its own.
 fn flaw(offset: u32, length: u32) -> Flaw {
     Flaw { offset, length }
 }

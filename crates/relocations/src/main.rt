@@ -112,7 +112,7 @@ fn pointers_sheet() -> Sheet {
     sheet
 }
 
-// Bytes in hexadecimal.
+// Bytes in hexadecimal. Sector numbers are told otherwise in the other program: no common form.
 #[derive(Drop)]
 struct Bytes<'a>(&'a [u8]);
 

@@ -64,7 +64,7 @@ fn print_maps(rt: &HostRuntime) -> anyhow::Result<()> {
     Ok(())
 }
 
-// A sector of Format A as track and place.
+// A sector of Format A as track and place. Each program says in its own words that there is none.
 fn on_track(sector: u32) -> anyhow::Result<Address> {
     match address_of::<Pointers>(sector) {
         Some(address) => Ok(address),

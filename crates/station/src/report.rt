@@ -5,7 +5,7 @@ use medium::{Burn, Fault, IMAGE_BYTES, Medium, Refusal, Verdict, lowest_burnt};
 use roll::WhyNot;
 use std::{fmt, io};
 
-// Sector numbers beside each other, or the word `none`.
+// Sector numbers beside each other, or the word `none`. Bytes are told otherwise in the other program: no common form.
 #[derive(Drop)]
 struct Numbers<'a>(&'a [u32]);
 
