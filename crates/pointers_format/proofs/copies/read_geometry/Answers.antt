@@ -39,10 +39,7 @@ pub returns-in_default : goal.returns-in_default
 returns-in_default g c =
     let s = g.M.Medium.sectors c.args.medium.now in
     let p = c.count-sectors.result in
-    let was = c.in_ok-copy.was in
-    let answer = c.find_copy.ensures in
-    let at = c.in_default.is in
-    let found : sound_copy s c.copies.result ≡ None = cc in
+    let found : sound_copy s c.copies.result ≡ None = cc (c.in_ok-copy.was, c.find_copy.ensures, c.in_default.is) in
     let first : first_sound s (copies (last_track p)) ≡ None = ap (first_sound s) (sym c.copies.ensures) ∙ copy_missing s _ found in
     ap Err c.refuses-in_default.ensures ∙ by_first s p c.count-sectors.ensures (sym c.if-not-fits_format.ensures) None first
 
@@ -50,10 +47,7 @@ pub returns : goal.returns
 returns g c =
     let s = g.M.Medium.sectors c.args.medium.now in
     let p = c.count-sectors.result in
-    let was = c.in_ok-copy.was in
-    let answer = c.find_copy.ensures in
-    let at = c.in-Some.is in
-    let found : sound_copy s c.copies.result ≡ Some c.in-Some.copy = cc in
+    let found : sound_copy s c.copies.result ≡ Some c.in-Some.copy = cc (c.in_ok-copy.was, c.find_copy.ensures, c.in-Some.is) in
     let h = copy_found s _ _ found in
     let first : first_sound s (copies (last_track p)) ≡ Some c.in-Some.copy.0 = ap (first_sound s) (sym c.copies.ensures) ∙ h.0 in
     let chunk = c.first_chunk.ensures in

@@ -31,9 +31,7 @@ pub returns-then-branch : goal.returns-then-branch
 returns-then-branch g c =
     let geometry = c.args.geometry.now in
     let s = g.M.Medium.sectors c.args.medium.now in
-    let was = c.in_ok-burn_blank.was in
-    let answer = c.burn_blank.ensures.answer in
-    let sound : not (sector_at s c.home_of.result).weak ≡ true = cc in
+    let sound : not (sector_at s c.home_of.result).weak ≡ true = cc (c.in_ok-burn_blank.was, c.burn_blank.ensures.answer) in
     let w : (sector_at s (home geometry.layout c.args.block)).weak ≡ false = ap (λ h. (sector_at s h).weak) (sym c.home_of.ensures) ∙ not-true _ sound in
     let d = in_home geometry s c.requires.sized c.args.block c.requires.there c.args.bytes.now c.requires.unwritten w in
     record { answer = ap Ok d.1; after = burnt_by s c.home_of.result _ c.args.bytes.now (home geometry.layout c.args.block) _ _ _ c.home_of.ensures c.image_of-image.ensures c.home_tail.ensures c.burn_blank.ensures.after ∙ d.0 }
@@ -47,9 +45,7 @@ returns g c =
     let geometry = c.args.geometry.now in
     let b = c.args.block in
     let s = g.M.Medium.sectors c.args.medium.now in
-    let was = c.in_ok-burn_blank.was in
-    let answer = c.burn_blank.ensures.answer in
-    let weak : not (sector_at s c.home_of.result).weak ≡ false = cc in
+    let weak : not (sector_at s c.home_of.result).weak ≡ false = cc (c.in_ok-burn_blank.was, c.burn_blank.ensures.answer) in
     let w : (sector_at s (home geometry.layout b)).weak ≡ true = ap (λ h. (sector_at s h).weak) (sym c.home_of.ensures) ∙ not-false _ weak in
     let d = in_spares geometry s c.requires.sized b c.requires.there c.args.bytes.now w in
     let after = burnt_by s c.home_of.result _ c.args.bytes.now (home geometry.layout b) _ _ _ c.home_of.ensures c.image_of-image.ensures c.home_tail.ensures c.burn_blank.ensures.after in

@@ -45,9 +45,7 @@ returns-then-not-branch g c =
     let laid = ap (λ n. sheet_read n d) (sym c.count.ensures) ∙ sym c.read.ensures.answer ∙ c.in_ok-geometry.was in
     let low = lowest_is s _ c.in_ok-sector.ensures ∙ c.in_default.is in
     let r = begun_blank s d f laid low in
-    let was = c.in_ok-burn_sheet.was in
-    let answer = c.burn_sheet.ensures.answer in
-    let none : some_free s (copies (last_track f.sectors)) ≡ false = cc in
+    let none : some_free s (copies (last_track f.sectors)) ≡ false = cc (c.in_ok-burn_sheet.was, c.burn_sheet.ensures.answer) in
     let a = ap Err c.refuses-then-not-branch.ensures ∙ sym (r.0 ∙ cond-false (some_free s (copies (last_track f.sectors))) _ _ none) in
     let t = c.burn_sheet.ensures.after ∙ sym r.1 in
     record { answer = a; after = t; meaning = initialise_means s d _ _ a t }
@@ -60,9 +58,7 @@ returns g c =
     let laid = ap (λ n. sheet_read n d) (sym c.count.ensures) ∙ sym c.read.ensures.answer ∙ c.in_ok-geometry.was in
     let low = lowest_is s _ c.in_ok-sector.ensures ∙ c.in_default.is in
     let r = begun_blank s d f laid low in
-    let was = c.in_ok-burn_sheet.was in
-    let answer = c.burn_sheet.ensures.answer in
-    let some : some_free s (copies (last_track f.sectors)) ≡ true = cc in
+    let some : some_free s (copies (last_track f.sectors)) ≡ true = cc (c.in_ok-burn_sheet.was, c.burn_sheet.ensures.answer) in
     let a = sym (r.0 ∙ cond-true (some_free s (copies (last_track f.sectors))) _ _ some) in
     let t = c.burn_sheet.ensures.after ∙ sym r.1 in
     record { answer = a; after = t; meaning = initialise_means s d _ _ a t }

@@ -20,9 +20,7 @@ returns-then-not-branch g c =
     let s = g.M.Medium.sectors c.args.self.now.medium.now in
     let all = c.into_iter-spare-iterator.ensures.into_iter_gives ∙ c.spares-spare-items.ensures.all in
     let listed = turn_within _ _ _ c.loop-spare.yielded_by _ all _ _ c.in-Some.ensures.steps in
-    let was = c.in_ok-check_link.was in
-    let answer = c.check_link.ensures.answer in
-    let unfit : passes_unless geometry.layout s (get_or c.loop-spare.named (named_by s c.in-Some.spare) false) c.in-Some.spare ≡ false = cc in
+    let unfit : passes_unless geometry.layout s (get_or c.loop-spare.named (named_by s c.in-Some.spare) false) c.in-Some.spare ≡ false = cc (c.in_ok-check_link.was, c.check_link.ensures.answer) in
     ap Err c.refuses.ensures ∙ ap links_checked (checking_stop geometry s c.loop-spare.named _ c.loop-spare.invariant _ _ c.in-Some.ensures.steps listed unfit)
 
 pub loop-spare-preserved : goal.loop-spare-preserved
@@ -31,10 +29,7 @@ loop-spare-preserved g c =
     let s = g.M.Medium.sectors c.args.self.now.medium.now in
     let all = c.into_iter-spare-iterator.ensures.into_iter_gives ∙ c.spares-spare-items.ensures.all in
     let listed = turn_within _ _ _ c.loop-spare.yielded_by _ all _ _ c.in-Some.ensures.steps in
-    let was = c.in_ok-check_link.was in
-    let answer = c.check_link.ensures.answer in
-    let taken = c.if-not-branch.false in
-    let ok : c.check_link.result ≡ Ok true = cc in
+    let ok : c.check_link.result ≡ Ok true = cc (c.in_ok-check_link.was, c.check_link.ensures.answer, c.if-not-branch.false) in
     let fit : passes_unless geometry.layout s (get_or c.loop-spare.named (named_by s c.in-Some.spare) false) c.in-Some.spare ≡ true = cc in
     checking_next geometry s c.loop-spare.named _ c.loop-spare.invariant _ _ c.in-Some.ensures.steps listed _ (c.check_link.ensures.marked ok) fit
 

@@ -22,17 +22,13 @@ is_named-requires g c =
 pub loop-spare-preserved : goal.loop-spare-preserved
 loop-spare-preserved g c =
     let s = g.M.Medium.sectors c.args.self.now.medium.now in
-    let was = c.in_ok-is_named.was in
-    let answer = c.is_named.ensures in
-    let unfit : names s c.in-Some.spare c.args.home ≡ false = cc in
+    let unfit : names s c.in-Some.spare c.args.home ≡ false = cc (c.in_ok-is_named.was, c.is_named.ensures) in
     sym (cond-false (names s c.in-Some.spare c.args.home) _ _ unfit) ∙ search_turn s c.args.home c.in-Some.spare _ _ _ c.in-Some.ensures.steps c.loop-spare.invariant
 
 pub returns-then-branch : goal.returns-then-branch
 returns-then-branch g c =
     let s = g.M.Medium.sectors c.args.self.now.medium.now in
-    let was = c.in_ok-is_named.was in
-    let answer = c.is_named.ensures in
-    let fit : names s c.in-Some.spare c.args.home ≡ true = cc in
+    let fit : names s c.in-Some.spare c.args.home ≡ true = cc (c.in_ok-is_named.was, c.is_named.ensures) in
     ap Ok (sym (cond-true (names s c.in-Some.spare c.args.home) _ _ fit) ∙ search_turn s c.args.home c.in-Some.spare _ _ _ c.in-Some.ensures.steps c.loop-spare.invariant)
 
 pub returns : goal.returns
