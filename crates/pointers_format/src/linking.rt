@@ -95,6 +95,7 @@ impl<M: Medium> OnMedium<'_, M> {
     }
 
     // The spare that is linked to the home, if one is.
+    #[tactic(auto, using(crate::specs::Linked::found_step), unfolding(crate::specs::Linking::links))]
     pub(crate) fn find_spare(&self, home: u32) -> Result<Option<u32>, Fault>
         ensures { result ≡ Ok (spare_of (links self.now.geometry.now.layout (M.Medium.sectors self.now.medium.now)) home) }
     {
