@@ -1,5 +1,6 @@
 -- The loops over all spares, turn by turn: the check of the links, and the search for the spare of a home.
-use Rattle.std.proofs.Common.{◌≡◌, ℕ, ◌<◌, Bool, true, false, cond, not, ◌&&◌, ◌||◌, eqb, List, [], ◌∷◌, length, get_or, drop, set, replicate, Some, None, Option, sym, ap, ◌∙◌, subst, ap₂, ⊎_elim, arith}
+use Rattle.std.proofs.Common.{◌≡◌, ℕ, ◌<◌, Bool, true, false, cond, not, ◌&&◌, ◌||◌, eqb, List, [], ◌∷◌, length, get_or, drop, set, replicate, Some, None, Option, sym, refl, ap, ◌∙◌, subst, ap₂, ⊎_elim, arith}
+use mathlib.Core.List.Memᴰ
 use mathlib.Core.List.{Memᴰ}
 use Rattle.format.specs.Blocks.{sound_at, spare_of, spoiled_at}
 use Rattle.format.specs.Sectors.{image_at}
@@ -56,26 +57,30 @@ pub record Checking (l : Layout) (s : List Sector) (marks : List Bool) (rest : L
   pub still : faulty_among l s taken rest ≡ faulty l s
   pub marked : (h : ℕ) → h < 620000 → get_or marks h false ≡ has taken h
   pub as_many : length marks ≡ 620000
+  pub listed : (p : ℕ) → Memᴰ p rest → Memᴰ p (all_spares l)
 
 pub checking_start : (l : Layout) (s : List Sector) (n : ℕ) (rest : List ℕ) → n ≡ 620000 → rest ≡ all_spares l → Checking l s (replicate n false) rest
 unfolding faulty
-checking_start l s n rest e all = record { taken = []; still = ap (faulty_among l s []) all; marked = λ h k. get_or-replicate n h false false (omega arith); as_many = length-replicate n false ∙ e }
+checking_start l s n rest e all = record { taken = []; still = ap (faulty_among l s []) all; marked = λ h k. get_or-replicate n h false false (omega arith); as_many = length-replicate n false ∙ e; listed = λ p m. subst (Memᴰ p) all m }
 
 module _ (g : Pointers) (s : List Sector) (marks : List Bool) (rest : List ℕ) (k : Checking g.layout s marks rest) where
   pub checking_done : rest ≡ [] → None ≡ faulty g.layout s
   checking_done none = ap (faulty_among g.layout s k.taken) (sym none) ∙ k.still
 
-  module _ (p : ℕ) (later : List ℕ) (more : rest ≡ p ∷ later) (listed : Memᴰ p (all_spares g.layout)) where
+  module _ (p : ℕ) (later : List ℕ) (more : rest ≡ p ∷ later) where
     abbrev l : Layout
     l = g.layout
 
     abbrev seen : Bool
     seen = get_or marks (named_by s p) false
 
+    pub checking_listed : Memᴰ p (all_spares l)
+    checking_listed = k.listed p (subst (Memᴰ p) (sym more) (Memᴰ.head refl))
+
     passes_same : passes_unless l s seen p ≡ passes l s k.taken p
     passes_same =
         let n = has k.taken (named_by s p) in
-        let well : points_well l s p ≡ true → (points_well l s p && not seen) ≡ (points_well l s p && not n) = λ t. ap (λ b. points_well l s p && not b) (k.marked (named_by s p) (well_inside g s p listed t)) in
+        let well : points_well l s p ≡ true → (points_well l s p && not seen) ≡ (points_well l s p && not n) = λ t. ap (λ b. points_well l s p && not b) (k.marked (named_by s p) (well_inside g s p checking_listed t)) in
         let ill : points_well l s p ≡ false → (points_well l s p && not seen) ≡ (points_well l s p && not n) = λ t. ap (λ b. b && not seen) t ∙ sym (ap (λ b. b && not n) t) in
         ap (λ b. cond (sound_at s p) b true) (⊎_elim well ill (cases_Bool (points_well l s p)))
 
@@ -93,7 +98,7 @@ module _ (g : Pointers) (s : List Sector) (marks : List Bool) (rest : List ℕ) 
     marked_next y h low =
         let n = named_by s p in
         let sound : sound_at s p ≡ true → get_or (marks_with s marks p) h false ≡ has (taken_with s k.taken p) h =
-        λ t. let small = well_inside g s p listed (passed_well y t) in
+        λ t. let small = well_inside g s p checking_listed (passed_well y t) in
         let m = k.as_many in
         let here : n ≡ h → get_or (set marks n true) h false ≡ (eqb n h || has k.taken h) =
         λ e. ap (λ x. get_or (set marks n true) x false) (sym e) ∙ get_or-set_same marks n true false (omega arith) ∙ sym (or_left (eqb n h) _ (eq-eqb n h e)) in
@@ -115,9 +120,5 @@ module _ (g : Pointers) (s : List Sector) (marks : List Bool) (rest : List ℕ) 
           still = sym (cond-true (passes l s k.taken p) _ _ (sym passes_same ∙ y)) ∙ split;
           marked = λ h low. ap (λ ms. get_or ms h false) e ∙ marked_next y h low;
           as_many = ap length e ∙ marks_length ∙ k.as_many;
+          listed = λ q m. k.listed q (subst (Memᴰ q) (sym more) (Memᴰ.tail m));
         }
-
--- a turn of the search for the spare of the home h, where what is left finds what the whole does
-pub search_turn : (s : List Sector) (h p : ℕ) (later rest : List ℕ) (whole : Option ℕ) → rest ≡ p ∷ later → spare_of (links_among s rest) h ≡ whole → cond (names s p h) (Some p) (spare_of (links_among s later) h) ≡ whole
-search_turn s h p later rest whole more same =
-    sym (found_step s p later h) ∙ ap (λ ps. spare_of (links_among s ps) h) (sym more) ∙ same
