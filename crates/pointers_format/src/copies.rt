@@ -12,6 +12,7 @@ use medium::{Fault, Image, Layer, Medium, Refusal};
 use pointers::{Pointers, SECTORS_A_TRACK, fits_format};
 
 // Where the copies stand on a medium of so many sectors.
+#[tactic(auto, unfolding(crate::specs::Copies::copies))]
 fn copies(sectors: u32) -> [u32; 4]
     requires { fits_format sectors ≡ true }
     ensures { result ≡ copies (last_track sectors) }

@@ -9,9 +9,6 @@ use Rattle.pointers_format.specs.Copies.{copies}
 use Rattle.pointers_format.specs.Initialising.{with_copies}
 use Rattle.pointers_format.proofs.copies.burn_sheet.Goals as goal
 
-pub copies-requires : goal.copies-requires
-copies-requires g c = ap fits_format c.sector_count.ensures ∙ c.args.geometry.now.sized
-
 pub burn_copies-requires : goal.burn_copies-requires
 burn_copies-requires g c =
     let geometry = c.args.geometry.now in

@@ -7,12 +7,6 @@ use Rattle.pointers_format.specs.Mounted.{spare_inside}
 use Rattle.std.proofs.lemmas.Option.{cond_some}
 use Rattle.pointers_format.proofs.linking.OnMedium.check_link.Goals as goal
 
-pub read_sound-requires : goal.read_sound-requires
-read_sound-requires g c =
-    let k = spare_inside c.args.self.now.geometry.now c.args.spare c.requires in
-    let z = c.args.self.now.sized in
-    omega arith
-
 pub points_well-requires : goal.points_well-requires
 points_well-requires g c =
     let s = g.M.Medium.sectors c.args.self.now.medium.now in
