@@ -11,25 +11,11 @@ returns-then-not-may_replace g c =
     let e = well_by c.args.self.now.geometry.now.layout (g.M.Medium.sectors c.args.self.now.medium.now) c.args.spare c.args.image.now c.target-home.result c.requires.shown c.target-home.ensures in
     ap Ok (sym (e ∙ and_left _ _ (sym c.if-not-may_replace.ensures.answer)))
 
-pub spare_tail-requires : goal.spare_tail-requires
-spare_tail-requires g c =
-    let geometry = c.args.self.now.geometry.now in
-    let k = spare_inside geometry c.args.spare c.requires.listed in
-    let f = few_sectors geometry in
-    let h = may_inside geometry c.args.spare c.target-home.result c.requires.listed (sym c.if-not-may_replace.ensures.answer) in
-    (omega arith, h.1)
-
 pub returns-then-not-has_tail : goal.returns-then-not-has_tail
 returns-then-not-has_tail g c =
     let e = well_by c.args.self.now.geometry.now.layout (g.M.Medium.sectors c.args.self.now.medium.now) c.args.spare c.args.image.now c.target-home.result c.requires.shown c.target-home.ensures in
     let unlike = sym (c.if-not-has_tail.ensures ∙ ap (bytes_eq (drop 512 c.args.image.now)) c.spare_tail.ensures) in
     ap Ok (sym (e ∙ and_right _ _ (and_left _ _ unlike)))
-
-pub shows-requires : goal.shows-requires
-shows-requires g c =
-    let h = may_inside c.args.self.now.geometry.now c.args.spare c.target-home.result c.requires.listed (sym c.if-not-may_replace.ensures.answer) in
-    let z = c.args.self.now.sized in
-    omega arith
 
 pub returns : goal.returns
 returns g c =
