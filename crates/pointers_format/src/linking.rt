@@ -51,7 +51,7 @@ pub(crate) struct OnMedium<'a, M: Medium> {
 
 impl<M: Medium> OnMedium<'_, M> {
     // Whether a sound spare with this image points to itself, and twice to a spoiled home that it may stand for.
-    #[tactic(auto, using(crate::specs::Mounted::spare_inside, crate::specs::Mounted::few_sectors, crate::proofs::Checking::may_inside))]
+    #[tactic(auto, using(crate::specs::Mounted::spare_inside, crate::specs::Mounted::few_sectors, crate::proofs::Checking::may_inside), unfolding(crate::specs::Linking::points_well, crate::specs::Linking::named_by))]
     fn points_well(&self, spare: u32, image: &Image) -> Result<bool, Fault>
         requires listed { Memᴰ spare (all_spares self.now.geometry.now.layout) }
         requires shown { image.now ≡ image_at (M.Medium.sectors self.now.medium.now) spare }
