@@ -70,6 +70,7 @@ impl FormatA {
     }
 
     // Stores a block whose home is blank.
+    #[tactic(auto, using(crate::proofs::Meant::block_stored))]
     pub fn store<M: Medium>(&self, medium: &mut M, block: u32, bytes: &Block) -> Result<(), Fault>
         requires there { block < blocks_of self.now }
         requires unwritten { blank_at (M.Medium.sectors medium.old) (home_of self.now block) ≡ true }
