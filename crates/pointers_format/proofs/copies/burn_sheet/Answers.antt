@@ -19,13 +19,3 @@ burn_copies-requires g c =
       apart = subst Apart (sym at) (copies_apart n (size_held geometry).least);
       blank = λ i m. copies_blank geometry s (sym c.requires.sized) c.requires.blank i (subst (λ ps. Memᴰ i ps) at m);
     }
-
-pub returns : goal.returns
-unfolding with_copies
-returns g c =
-    let s = g.M.Medium.sectors c.args.medium.now in
-    let at = c.copies.ensures ∙ ap (λ p. copies (last_track p)) c.sector_count.ensures in
-    record {
-      answer = c.burn_copies.ensures.answer ∙ ap (λ ps. Ok (some_free s ps)) at;
-      after = c.burn_copies.ensures.after ∙ ap₂ (λ d ps. after_burns s (copy_burns d ps)) c.copy_image.ensures at;
-    }
