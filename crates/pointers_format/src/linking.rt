@@ -68,7 +68,7 @@ impl<M: Medium> OnMedium<'_, M> {
     }
 
     // Whether the spare is unsound, or a valid link to a home that is not marked yet; that home is then marked.
-    #[tactic(auto, using(crate::specs::Mounted::spare_inside))]
+    #[tactic(auto, using(crate::specs::Mounted::spare_inside, crate::proofs::Checking::well_inside), unfolding(crate::specs::Linking::named_by))]
     fn check_link(&self, spare: u32, named: &mut Marks) -> Result<bool, Fault>
         requires { Memᴰ spare (all_spares self.now.geometry.now.layout) }
         ensures answer { result ≡ Ok (passes_unless self.now.geometry.now.layout (M.Medium.sectors self.now.medium.now) (slice_index_or named.old (named_by (M.Medium.sectors self.now.medium.now) spare) false) spare) }
