@@ -17,16 +17,6 @@ use Rattle.pointers_format.proofs.storing.place.Goals as goal
 burnt_by : (s : List Sector) (p : ℕ) (image bytes : List ℕ) (h : ℕ) (tail wanted : List ℕ) (t : List Sector) → p ≡ h → image ≡ bytes ++ tail → tail ≡ wanted → t ≡ sectors_after s p image → t ≡ sectors_after s h (bytes ++ wanted)
 burnt_by s p image bytes h tail wanted t e i f a = a ∙ ap₂ (sectors_after s) e (i ∙ ap (λ x. bytes ++ x) f)
 
-pub burn_blank-requires : goal.burn_blank-requires
-burn_blank-requires g c =
-    let geometry = c.args.geometry.now in
-    let s = g.M.Medium.sectors c.args.medium.now in
-    let e = c.home_of.ensures in
-    record {
-      inside = subst (λ h. h < length s) (sym e) (home_there geometry s c.requires.sized c.args.block c.requires.there);
-      blank = ap (blank_at s) e ∙ c.requires.unwritten;
-    }
-
 pub returns-then-branch : goal.returns-then-branch
 returns-then-branch g c =
     let geometry = c.args.geometry.now in
@@ -35,10 +25,6 @@ returns-then-branch g c =
     let w : (sector_at s (home geometry.layout c.args.block)).weak ≡ false = ap (λ h. (sector_at s h).weak) (sym c.home_of.ensures) ∙ not-true _ sound in
     let d = in_home geometry s c.requires.sized c.args.block c.requires.there c.args.bytes.now c.requires.unwritten w in
     record { answer = ap Ok d.1; after = burnt_by s c.home_of.result _ c.args.bytes.now (home geometry.layout c.args.block) _ _ _ c.home_of.ensures c.image_of-image.ensures c.home_tail.ensures c.burn_blank.ensures.after ∙ d.0 }
-
-pub try_spares-requires : goal.try_spares-requires
-try_spares-requires g c =
-    record { sized = ap length c.burn_blank.ensures.after ∙ after_length _ _ _ ∙ c.requires.sized; there = c.requires.there }
 
 pub returns : goal.returns
 returns g c =
