@@ -13,10 +13,6 @@ use Rattle.pointers_format.specs.Mounted.{by_first, no_size}
 use Rattle.pointers_format.specs.Copies.{copies}
 use Rattle.pointers_format.proofs.copies.read_geometry.Goals as goal
 
-pub returns-then-not-fits_format : goal.returns-then-not-fits_format
-returns-then-not-fits_format g c =
-    ap Err c.refuses.ensures ∙ no_size (g.M.Medium.sectors c.args.medium.now) (ap fits_format (sym c.count-sectors.ensures) ∙ sym c.if-not-fits_format.ensures)
-
 pub find_copy-requires : goal.find_copy-requires
 find_copy-requires g c =
     let p = c.count-sectors.result in
