@@ -32,6 +32,7 @@ impl FormatA {
     }
 
     // Mounts a medium by its first sound copy of the layout.
+    #[tactic(auto, using(crate::proofs::Meant::mount_means), unfolding(crate::specs::Mounting::mounting))]
     pub fn mount<M: Medium>(medium: &M) -> Result<FormatA, Fault>
         ensures answer { result ≡ mounting (M.Medium.sectors medium.now) }
         ensures meaning { MatchResult result (Mounted (M.Medium.sectors medium.now)) (MountRefused (M.Medium.sectors medium.now)) }
