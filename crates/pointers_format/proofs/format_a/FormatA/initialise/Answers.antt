@@ -11,15 +11,6 @@ use Rattle.std.proofs.lemmas.Result.{err_from_is_err_and}
 use Rattle.std.proofs.lemmas.Bool.{cond-false, cond-true}
 use Rattle.pointers_format.proofs.format_a.FormatA.initialise.Goals as goal
 
-pub returns-in_err-geometry : goal.returns-in_err-geometry
-returns-in_err-geometry g c =
-    let s = g.M.Medium.sectors c.args.medium.now in
-    let d = c.args.sheet.now in
-    let q = err_from_is_err_and c.from_residual.result c.from_residual.ensures.1 in
-    let r = begun_refused s d _ (ap (λ n. sheet_read n d) (sym c.count.ensures) ∙ sym c.read.ensures.answer ∙ c.in_err-geometry.was) in
-    let a = q.1 ∙ ap Err q.2 ∙ sym r.0 in
-    record { answer = a; after = sym r.1; meaning = initialise_means s d _ _ a (sym r.1) }
-
 pub returns-in-Some : goal.returns-in-Some
 returns-in-Some g c =
     let s = g.M.Medium.sectors c.args.medium.now in
