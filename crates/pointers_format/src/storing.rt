@@ -52,7 +52,7 @@ fn try_spares<M: Medium>(
 }
 
 // Stores a block whose home is blank; whether a place was left to it.
-#[tactic(auto, using(crate::specs::Stored::home_there, medium::proofs::Burns::after_length))]
+#[tactic(auto, using(crate::specs::Stored::home_there, medium::proofs::Burns::after_length, crate::proofs::Placed::in_home, crate::proofs::Placed::in_spares))]
 pub(crate) fn place<M: Medium>(
     geometry: &Pointers,
     medium: &mut M,
