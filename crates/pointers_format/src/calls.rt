@@ -16,7 +16,7 @@ use pointers::Pointers;
 
 impl FormatA {
     // Initialises a blank medium with the layout of the sheet.
-    #[tactic(auto, using(crate::proofs::Meant::initialise_means, format::proofs::Copying::lowest_is), unfolding(crate::specs::Initialising::initialising, crate::specs::Initialising::initialised))]
+    #[tactic(auto, using(crate::proofs::Meant::initialise_means, format::proofs::Copying::lowest_is, crate::specs::Mounted::sheet_good), unfolding(crate::specs::Initialising::initialising, crate::specs::Initialising::initialised))]
     pub fn initialise<M: Medium>(medium: &mut M, sheet: &Sheet) -> Result<FormatA, Fault>
         ensures answer { result ≡ initialising (M.Medium.sectors medium.old) sheet.now }
         ensures after { M.Medium.sectors medium.new ≡ initialised (M.Medium.sectors medium.old) sheet.now }

@@ -7,13 +7,6 @@ use Rattle.pointers.specs.Reading.{sheet_read}
 use Rattle.std.proofs.lemmas.Grind.{common_steps}
 use Rattle.pointers_format.proofs.format_a.FormatA.initialise.Goals as goal
 
-pub burn_sheet-requires : goal.burn_sheet-requires
-burn_sheet-requires g c =
-    let s = g.M.Medium.sectors c.args.medium.now in
-    let d = c.args.sheet.now in
-    let laid = ap (λ n. sheet_read n d) (sym c.count.ensures) ∙ sym c.read.ensures.answer ∙ c.in_ok-geometry.was in
-    record { sized = sym (sheet_good _ d _ laid).size; blank = lowest_is s _ c.in_ok-sector.ensures ∙ c.in_default.is }
-
 pub returns-then-not-branch-clause-meaning : goal.returns-then-not-branch-clause-meaning
 unfolding initialising initialised
 returns-then-not-branch-clause-meaning g c =
