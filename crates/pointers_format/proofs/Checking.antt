@@ -1,32 +1,17 @@
--- The loops over all spares, turn by turn: the check of the links, and the search for the spare of a home.
-use Rattle.std.proofs.Common.{◌≡◌, ℕ, ◌<◌, Bool, true, false, cond, not, ◌&&◌, ◌||◌, eqb, List, [], ◌∷◌, length, get_or, drop, set, replicate, Some, None, Option, sym, refl, ap, ◌∙◌, subst, ap₂, ⊎_elim, arith}
-use mathlib.Core.List.Memᴰ
+-- The check of the links, spare by spare.
+use Rattle.std.proofs.Common.{◌≡◌, ℕ, ◌<◌, Bool, true, false, cond, not, ◌&&◌, ◌||◌, eqb, List, [], ◌∷◌, length, get_or, set, replicate, Some, None, sym, refl, ap, ◌∙◌, subst, ⊎_elim, arith}
 use mathlib.Core.List.{Memᴰ}
-use Rattle.format.specs.Blocks.{sound_at, spare_of, spoiled_at}
-use Rattle.format.specs.Sectors.{image_at}
+use Rattle.format.specs.Blocks.{sound_at}
 use Rattle.medium.specs.Sectors.{Sector}
 use Rattle.pointers.proofs.Spared.{may_only}
 use Rattle.pointers.specs.Rules.{last_track}
 use Rattle.pointers.specs.Spares.{all_spares, may_replace}
 use Rattle.pointers.specs.declared.pointers.Pointers.{Pointers}
 use Rattle.pointers.specs.declared.layout.Layout.{Layout}
-use Rattle.pointers_format.specs.Linked.{found_step}
 use Rattle.pointers_format.specs.Mounted.{few_sectors, home_inside, rules, well_parts}
-use Rattle.pointers_format.specs.Linking.{faulty, faulty_among, has, links_among, marks_with, named_by, names, passes, passes_unless, points_well, taken_with}
-use Rattle.pointers_format.specs.Pointing.{spare_tail, target}
+use Rattle.pointers_format.specs.Linking.{faulty, faulty_among, has, marks_with, named_by, passes, passes_unless, points_well, taken_with}
 use Rattle.std.proofs.lemmas.List.{get_or-replicate, get_or-set_other, get_or-set_same, length-replicate, length-set}
 use Rattle.std.proofs.lemmas.Bool.{and_parts, cases_Bool, cases_eq, cond-false, cond-true, eq-eqb, ne_eqb, or_left}
-use Rattle.std.specs.Str.{bytes_eq}
-
-pub named_is : (s : List Sector) (p : ℕ) (image : List ℕ) (h : ℕ) → image ≡ image_at s p → h ≡ target image → named_by s p ≡ h
-unfolding named_by
-named_is s p image h e f = ap target (sym e) ∙ sym f
-
--- the test of a spare from its image
-pub well_by : (l : Layout) (s : List Sector) (p : ℕ) (image : List ℕ) (h : ℕ) → image ≡ image_at s p → h ≡ target image → points_well l s p ≡ (may_replace l p h && (bytes_eq (drop 512 image) (spare_tail p h) && spoiled_at s h))
-unfolding points_well
-well_by l s p image h e f =
-    ap₂ (λ k d. may_replace l p k && (bytes_eq (drop 512 d) (spare_tail p k) && spoiled_at s k)) (named_is s p image h e f) (sym e)
 
 -- a home that a spare may stand for lies on the medium
 pub may_inside : (g : Pointers) (p h : ℕ) → Memᴰ p (all_spares g.layout) → may_replace g.layout p h ≡ true → (h < g.sectors) × (h < 620000)
@@ -38,18 +23,6 @@ may_inside g p h m t =
 
 pub well_inside : (g : Pointers) (s : List Sector) (p : ℕ) → Memᴰ p (all_spares g.layout) → points_well g.layout s p ≡ true → named_by s p < 620000
 well_inside g s p m t = (may_inside g p (named_by s p) m (well_parts g.layout s p t).0).1
-
--- a sound spare that points well, by its image and the mark of the home
-module _ (g : Pointers) (s : List Sector) (p : ℕ) (marks : List Bool) (image : List ℕ) (h : ℕ) (m : Memᴰ p (all_spares g.layout)) (so : sound_at s p ≡ true) (well : points_well g.layout s p ≡ true) (e : image ≡ image_at s p) (f : h ≡ target image) where
-  pub home_small : h < 620000
-  home_small = subst (λ x. x < 620000) (named_is s p image h e f) (well_inside g s p m well)
-
-  pub passes_by : (b : Bool) → get_or marks h false ≡ b → not b ≡ passes_unless g.layout s (get_or marks (named_by s p) false) p
-  passes_by b t =
-      sym (cond-true (sound_at s p) _ _ so ∙ ap₂ ◌&&◌ well (ap (λ x. not (get_or marks x false)) (named_is s p image h e f) ∙ ap not t))
-
-  pub marks_by : set marks h true ≡ marks_with s marks p
-  marks_by = ap (λ x. set marks x true) (sym (named_is s p image h e f)) ∙ sym (cond-true (sound_at s p) _ _ so)
 
 -- the homes in taken are marked, and what is left to check comes to the whole
 pub record Checking (l : Layout) (s : List Sector) (marks : List Bool) (rest : List ℕ) : Type 0 where

@@ -1,12 +1,10 @@
 use mathlib.Core.List.{Memᴰ}
-use Rattle.std.proofs.Common.{Ok, sym, ap, ◌∙◌, subst, ap₂}
-use Rattle.format.specs.Sectors.{Apart, copy_burns, some_free}
-use Rattle.medium.specs.Runs.{after_burns}
+use Rattle.std.proofs.Common.{sym, ap, ◌∙◌, subst}
+use Rattle.format.specs.Sectors.{Apart}
 use Rattle.pointers.proofs.Ruled.{size_held}
-use Rattle.pointers.specs.Rules.{fits_format, last_track}
+use Rattle.pointers.specs.Rules.{last_track}
 use Rattle.pointers_format.specs.Begun.{copies_apart, copies_blank}
 use Rattle.pointers_format.specs.Copies.{copies}
-use Rattle.pointers_format.specs.Initialising.{with_copies}
 use Rattle.pointers_format.proofs.copies.burn_sheet.Goals as goal
 
 pub burn_copies-requires : goal.burn_copies-requires

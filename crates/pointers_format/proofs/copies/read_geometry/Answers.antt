@@ -7,9 +7,9 @@ use Rattle.std.proofs.lemmas.Option.{none-some}
 use Rattle.std.specs.Prelude.{option_map}
 use Rattle.pointers.proofs.Ruled.{sized}
 use Rattle.pointers.specs.Reading.{sheet_read}
-use Rattle.pointers.specs.Rules.{fits_format, last_track}
+use Rattle.pointers.specs.Rules.{last_track}
 use Rattle.pointers_format.specs.Begun.{copies_inside}
-use Rattle.pointers_format.specs.Mounted.{by_first, no_size}
+use Rattle.pointers_format.specs.Mounted.{by_first}
 use Rattle.pointers_format.specs.Copies.{copies}
 use Rattle.pointers_format.proofs.copies.read_geometry.Goals as goal
 

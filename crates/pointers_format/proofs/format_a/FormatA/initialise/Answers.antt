@@ -1,9 +1,7 @@
-use Rattle.std.proofs.Common.{Ok, Err, sym, ap, ◌∙◌, arith}
+use Rattle.std.proofs.Common.{Ok, Err, arith}
 use Rattle.format.proofs.Copying.{lowest_is}
 use Rattle.pointers_format.proofs.Meant.{initialise_means}
 use Rattle.pointers_format.specs.Initialising.{initialised, initialising}
-use Rattle.pointers_format.specs.Mounted.{sheet_good}
-use Rattle.pointers.specs.Reading.{sheet_read}
 use Rattle.std.proofs.lemmas.Grind.{common_steps}
 use Rattle.pointers_format.proofs.format_a.FormatA.initialise.Goals as goal
 
