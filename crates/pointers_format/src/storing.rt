@@ -31,6 +31,7 @@ fn try_spare<M: Medium>(medium: &mut M, spare: u32, home: u32, bytes: &Block) ->
 }
 
 // Tries the spares of the block until one proves sound; whether one does.
+#[tactic(auto, using(crate::proofs::Trying::trying_done, crate::proofs::Trying::trying_found))]
 fn try_spares<M: Medium>(
     geometry: &Pointers,
     medium: &mut M,

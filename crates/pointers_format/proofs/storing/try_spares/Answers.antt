@@ -34,16 +34,3 @@ loop-spare-preserved g c =
     let unfit : free s c.in-Some.spare ≡ false = cc (c.in_ok-try_spare.was, c.try_spare.ensures.answer) in
     let after = c.try_spare.ensures.after ∙ ap (λ h. sectors_after s c.in-Some.spare (c.args.bytes.now ++ spare_tail c.in-Some.spare h)) c.home_of-home.ensures in
     trying_next _ _ _ _ _ _ c.loop-spare.invariant _ _ c.in-Some.ensures.steps unfit _ after
-
-pub returns-then-branch : goal.returns-then-branch
-returns-then-branch g c =
-    let s = g.M.Medium.sectors c.loop-spare.medium in
-    let fit : free s c.in-Some.spare ≡ true = cc (c.in_ok-try_spare.was, c.try_spare.ensures.answer) in
-    let after = c.try_spare.ensures.after ∙ ap (λ h. sectors_after s c.in-Some.spare (c.args.bytes.now ++ spare_tail c.in-Some.spare h)) c.home_of-home.ensures in
-    let d = trying_found _ _ _ _ _ _ c.loop-spare.invariant _ _ c.in-Some.ensures.steps _ after fit in
-    record { answer = ap Ok d.1; after = d.0 }
-
-pub returns : goal.returns
-returns g c =
-    let d = trying_done _ _ _ _ _ _ c.loop-spare.invariant c.in-None.ensures.steps.0 in
-    record { answer = ap Ok d.1; after = d.0 }
