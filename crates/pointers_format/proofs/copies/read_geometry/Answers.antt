@@ -21,23 +21,11 @@ find_copy-requires g c =
     let e = c.count-sectors.ensures in
     λ i m. let k = copies_inside (last_track p) z.least i (subst (λ ps. Memᴰ i ps) c.copies.ensures m) in omega arith
 
-copy_missing : (s : List Sector) (o : Option ℕ) → option_map {U = ℕ × List ℕ} (λ i. (i, image_at s i)) o ≡ None → o ≡ None
-copy_missing s None e = refl
-copy_missing s (Some i) e = cc
-
 copy_found : (s : List Sector) (o : Option ℕ) (x : ℕ × List ℕ) → option_map {U = ℕ × List ℕ} (λ i. (i, image_at s i)) o ≡ Some x → (o ≡ Some x.0) × (image_at s x.0 ≡ x.1)
 copy_found s None x e = absurd (none-some x e)
 copy_found s (Some i) x e =
     let p : (i, image_at s i) ≡ x = cc in
     (ap (λ y. Some y.0) p, ap (λ y. image_at s y.0) (sym p) ∙ ap (λ y. y.1) p)
-
-pub returns-in_default : goal.returns-in_default
-returns-in_default g c =
-    let s = g.M.Medium.sectors c.args.medium.now in
-    let p = c.count-sectors.result in
-    let found : sound_copy s c.copies.result ≡ None = cc (c.in_ok-copy.was, c.find_copy.ensures, c.in_default.is) in
-    let first : first_sound s (copies (last_track p)) ≡ None = ap (first_sound s) (sym c.copies.ensures) ∙ copy_missing s _ found in
-    ap Err c.refuses-in_default.ensures ∙ by_first s p c.count-sectors.ensures (sym c.if-not-fits_format.ensures) None first
 
 pub returns : goal.returns
 returns g c =
