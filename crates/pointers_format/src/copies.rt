@@ -49,7 +49,7 @@ pub(crate) fn burn_sheet<M: Medium>(geometry: &Pointers, medium: &mut M) -> Resu
 }
 
 // The geometry of a medium, by the first sound copy.
-#[tactic(auto, unfolding(crate::specs::Mounting::geometry_of))]
+#[tactic(auto, using(crate::specs::Begun::copies_inside, pointers::proofs::Ruled::sized), unfolding(crate::specs::Mounting::geometry_of))]
 pub(crate) fn read_geometry<M: Medium>(medium: &M) -> Result<Pointers, Fault>
     ensures { result ≡ geometry_of (M.Medium.sectors medium.now) }
 {

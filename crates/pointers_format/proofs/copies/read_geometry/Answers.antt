@@ -13,14 +13,6 @@ use Rattle.pointers_format.specs.Mounted.{by_first}
 use Rattle.pointers_format.specs.Copies.{copies}
 use Rattle.pointers_format.proofs.copies.read_geometry.Goals as goal
 
-pub find_copy-requires : goal.find_copy-requires
-find_copy-requires g c =
-    let p = c.count-sectors.result in
-    let z = sized p (sym c.if-not-fits_format.ensures) in
-    let w = z.whole in
-    let e = c.count-sectors.ensures in
-    λ i m. let k = copies_inside (last_track p) z.least i (subst (λ ps. Memᴰ i ps) c.copies.ensures m) in omega arith
-
 copy_found : (s : List Sector) (o : Option ℕ) (x : ℕ × List ℕ) → option_map {U = ℕ × List ℕ} (λ i. (i, image_at s i)) o ≡ Some x → (o ≡ Some x.0) × (image_at s x.0 ≡ x.1)
 copy_found s None x e = absurd (none-some x e)
 copy_found s (Some i) x e =
