@@ -34,7 +34,7 @@ fn copy_image(geometry: &Pointers) -> Image
 }
 
 // Burns the sheet into all four sectors of a blank medium; whether one of them proves sound.
-#[tactic(auto, unfolding(crate::specs::Initialising::with_copies))]
+#[tactic(auto, using(crate::specs::Begun::copies_apart, pointers::proofs::Ruled::size_held), unfolding(crate::specs::Initialising::with_copies))]
 pub(crate) fn burn_sheet<M: Medium>(geometry: &Pointers, medium: &mut M) -> Result<bool, Fault>
     requires sized { length (M.Medium.sectors medium.old) ≡ geometry.now.sectors }
     requires blank { lowest_from 0 (M.Medium.sectors medium.old) ≡ None }
