@@ -1,14 +1,11 @@
-use mathlib.Core.List.{Memᴰ}
-use Rattle.std.proofs.Common.{◌≡◌, ℕ, List, Option, take, Some, None, Err, sym, refl, ap, ◌∙◌, subst, ap₂, arith}
+use Rattle.std.proofs.Common.{◌≡◌, ℕ, List, Option, take, Some, None, sym, ap, ◌∙◌, ap₂, arith}
 use Rattle.format.specs.Sectors.{first_sound, image_at, sound_copy}
 use Rattle.medium.specs.Sectors.{Sector}
 use Rattle.std.proofs.lemmas.Grind.{common_steps}
 use Rattle.std.proofs.lemmas.Option.{none-some}
 use Rattle.std.specs.Prelude.{option_map}
-use Rattle.pointers.proofs.Ruled.{sized}
 use Rattle.pointers.specs.Reading.{sheet_read}
 use Rattle.pointers.specs.Rules.{last_track}
-use Rattle.pointers_format.specs.Begun.{copies_inside}
 use Rattle.pointers_format.specs.Mounted.{by_first}
 use Rattle.pointers_format.specs.Copies.{copies}
 use Rattle.pointers_format.proofs.copies.read_geometry.Goals as goal

@@ -1,4 +1,4 @@
-use Rattle.std.proofs.Common.{◌≡◌, true, false, ◌++◌, Ok, ap, ◌∙◌, arith}
+use Rattle.std.proofs.Common.{◌≡◌, false, ◌++◌, ap, ◌∙◌, arith}
 use Rattle.format.specs.Sectors.{free}
 use Rattle.medium.specs.Calls.{sectors_after}
 use Rattle.pointers.proofs.Spared.{spares_apart}
@@ -6,7 +6,7 @@ use Rattle.pointers.proofs.Turns.{turn_within}
 use Rattle.pointers.specs.Rules.{last_track}
 use Rattle.pointers_format.specs.Mounted.{few_sectors, home_inside, rules}
 use Rattle.pointers_format.specs.Stored.{inside}
-use Rattle.pointers_format.proofs.Trying.{trying_done, trying_found, trying_next, trying_start}
+use Rattle.pointers_format.proofs.Trying.{trying_next, trying_start}
 use Rattle.pointers_format.specs.Pointing.{spare_tail}
 use Rattle.pointers_format.proofs.storing.try_spares.Goals as goal
 
