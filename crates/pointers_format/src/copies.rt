@@ -12,6 +12,7 @@ use medium::{Fault, Image, Layer, Medium, Refusal};
 use pointers::{Pointers, SECTORS_A_TRACK, fits_format, last_track};
 
 // Where the copies stand on a medium of so many sectors.
+#[tactic(auto, unfolding(crate::specs::Copies::copies))]
 fn copies(sectors: u32) -> [u32; 4]
     requires { fits_format sectors ≡ true }
     ensures { result ≡ copies (last_track sectors) }
@@ -34,6 +35,7 @@ fn copy_image(geometry: &Pointers) -> Image
 
 // Burns the sheet into all four sectors of a blank medium; whether one of them proves sound. Layout and medium go side by
 // side, as in storing.rt.
+#[tactic(auto, using(crate::specs::Begun::copies_apart, pointers::proofs::Ruled::size_held), unfolding(crate::specs::Initialising::with_copies))]
 pub(crate) fn burn_sheet<M: Medium>(geometry: &Pointers, medium: &mut M) -> Result<bool, Fault>
     requires sized { length (M.Medium.sectors medium.old) ≡ geometry.now.sectors }
     requires blank { lowest_from 0 (M.Medium.sectors medium.old) ≡ None }
@@ -48,6 +50,7 @@ pub(crate) fn burn_sheet<M: Medium>(geometry: &Pointers, medium: &mut M) -> Resu
 }
 
 // The geometry of a medium, by the first sound copy.
+#[tactic(auto, using(crate::specs::Begun::copies_inside, pointers::proofs::Ruled::sized), unfolding(crate::specs::Mounting::geometry_of))]
 pub(crate) fn read_geometry<M: Medium>(medium: &M) -> Result<Pointers, Fault>
     ensures { result ≡ geometry_of (M.Medium.sectors medium.now) }
 {

@@ -71,6 +71,7 @@ impl Format for FormatA {
         FormatA::mount(medium)
     }
 
+    #[tactic(auto, using(crate::proofs::Meant::fits))]
     fn store<M: Medium>(&self, medium: &mut M, block: u32, bytes: &Block) -> Result<(), Fault> {
         FormatA::store(self, medium, block, bytes)
     }
@@ -83,6 +84,7 @@ impl Format for FormatA {
         self.geometry.home_of(block)
     }
 
+    #[tactic(auto, using(crate::proofs::Meant::fits))]
     fn linked_spare<M: Medium>(&self, medium: &M, sector: u32) -> Option<u32> {
         FormatA::linked_spare(self, medium, sector).unwrap_or(None)
     }

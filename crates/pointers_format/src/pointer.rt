@@ -58,7 +58,7 @@ fn pointer_to_spare(geometry: &Pointers, block: u32) -> Pointer
 }
 
 // A home points to itself, and twice to its first spare.
-#[tactic(auto, unfolding(crate::specs::Pointing::home_tail))]
+#[tactic(auto, using(crate::specs::Mounted::few_sectors, crate::specs::Mounted::home_inside), unfolding(crate::specs::Pointing::home_tail))]
 pub(crate) fn home_tail(geometry: &Pointers, block: u32) -> Tail
     requires { block < blocks geometry.now.layout }
     ensures { result ≡ home_tail (home geometry.now.layout block) (spares_of geometry.now.layout block) }
