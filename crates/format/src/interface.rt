@@ -41,7 +41,8 @@ pub trait Format: Addressing + Sized {
     fn mount<M: Medium>(medium: &M) -> Result<Self, Fault>
         ensures { result ≡ mounting (M.Medium.sectors medium.now) };
 
-    // What it promises holds where the medium mounts with this layout.
+    // What it promises holds where the medium mounts with this layout. That there is such a block, unwritten, the volume
+    // has tested, once for all that it then asks.
     fn store<M: Medium>(&self, medium: &mut M, block: u32, bytes: &Block) -> Result<(), Fault>
         requires there { block < blocks self.now }
         requires unwritten { blank_at (M.Medium.sectors medium.old) (home self.now block) ≡ true }

@@ -1,4 +1,5 @@
-// Single sectors, by what a format asks of them. The medium's faults pass up whole.
+// Single sectors, by what a format asks of them. The medium's faults pass up whole. That a sector is one of the medium's
+// each format knows by its layout; a medium tests it again, so no type keeps it.
 ghost use Rattle.std.specs.Prelude.{◌≡◌, ◌<◌, true, not, length, Ok};
 ghost use Rattle.format.specs.Blocks.{blank_at};
 ghost use Rattle.format.specs.Sectors.{shows, sound_image};

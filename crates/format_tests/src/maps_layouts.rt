@@ -36,7 +36,7 @@ fn sheet(heap: Global, count: u8, entries: &[Entry]) -> Result<Vec<u8>, AllocErr
     Ok(sheet)
 }
 
-// The number of the refusal that a sheet gets on a medium of so many sectors, or 0; 255 if it has not 512 bytes.
+// The number of the refusal that a sheet gets on a medium of so many sectors, or 0; 255 if it has not 512 bytes: the tests compare numbers alone.
 fn refusal_for(sectors: u32, sheet: &[u8]) -> u8 {
     let Ok(sheet) = <&[u8; SHEET_BYTES]>::try_from(sheet) else {
         return 255;
@@ -190,10 +190,8 @@ fn full_size(rt: HostRuntime) -> Result<(), Fail> {
     let areas = layout.areas(heap)?;
     assert_eq!(rt; areas.len(), FULL_AREAS.len());
     for (area, expected) in areas.iter().zip(FULL_AREAS.iter()) {
-        assert_eq!(rt; area.first, expected.0);
-        assert_eq!(rt; area.last, expected.1);
-        assert_eq!(rt; area.band, expected.2);
-        assert_eq!(rt; area.purpose, expected.3);
+        let told = (area.first, area.last, area.band, area.purpose);
+        assert_eq!(rt; told, *expected);
     }
     Ok(())
 }

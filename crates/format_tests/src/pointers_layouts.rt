@@ -58,7 +58,7 @@ fn example_with(at: usize, byte: u8) -> [u8; 512] {
     sheet
 }
 
-// The number of the refusal that a sheet gets on a medium of so many sectors, or 0.
+// The number of the refusal that a sheet gets on a medium of so many sectors, or 0: the tests compare numbers alone.
 fn refusal_for(sectors: u32, sheet: [u8; 512]) -> u8 {
     match Pointers::read(sectors, &sheet) {
         Ok(_) => 0,

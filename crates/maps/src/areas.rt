@@ -13,7 +13,7 @@ pub struct Area {
     pub purpose: Purpose,
 }
 
-// The area of a band that begins on a track, if one does.
+// The area of a band that begins on a track, if one does. Three tries and no table: each area has its own extent.
 fn begun_in(number: u8, band: Band, track: u16) -> Option<Area>
     ensures { result ≡ begun_in number band track }
 {

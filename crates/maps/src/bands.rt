@@ -21,7 +21,7 @@ pub(crate) const AREA_SECTORS: u32 = 4 * SECTORS_PER_TRACK;
 // Track 0 begins here; the tracks -2 and -1 hold no area.
 const FIRST_SECTOR: u32 = TRACKS_BEFORE_ZERO * SECTORS_PER_TRACK;
 
-// What an area is used for.
+// What an area is used for. Another format has other uses, so each has a type of its own.
 #[derive(Clone, Copy, PartialEq, Eq, Debug)]
 pub enum Purpose {
     Map,
@@ -41,7 +41,7 @@ impl fmt::Display for Purpose {
     }
 }
 
-// Some sectors in a row: the first of them, and how many there are.
+// Some sectors in a row: the first of them, and how many there are. No flaw of a plate: other places are inside here.
 #[derive(Clone, Copy, PartialEq, Eq, Debug)]
 pub struct Extent {
     pub first: u32,
@@ -109,6 +109,7 @@ impl Extent {
 }
 
 impl Band {
+    // Two areas of one size, each from a field of its own.
     pub(crate) fn map_area(self) -> Extent
         ensures first { result.first ≡ self.maps }
         ensures size { result.size ≡ 128 }
@@ -138,7 +139,7 @@ impl Band {
 }
 
 impl Layout {
-    // The first `count` of the bands.
+    // The first `count` of the bands: eight at most, which is said again where only the slice is at hand.
     pub(crate) fn bands_in_use(&self) -> &[Band]
         requires { self.now.count ≤ 8 }
         ensures { result.now ≡ bands_of self.now }

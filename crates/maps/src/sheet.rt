@@ -127,7 +127,7 @@ fn entry_byte(band: Band, j: usize) -> u8
     entry_numbers(band)[j / 2].to_be_bytes()[j % 2]
 }
 
-// The byte `at` of the sheet of a valid layout.
+// The byte `at` of the sheet of a valid layout. By places and not by fields: each byte is made where it stands.
 pub(crate) fn sheet_byte(layout: &Layout, at: usize) -> u8
     requires { valid layout.now ≡ true }
     ensures { result ≡ sheet_byte layout.now at }

@@ -4,13 +4,14 @@ use plate::{CELL_BYTES, Flaw, Plate};
 use std::alloc::{AllocError, Global};
 use std::test::Fail;
 
+// A line for each crate of tests: one for both would be a crate of its own.
 fn flaw(offset: u32, length: u32) -> Flaw {
     Flaw { offset, length }
 }
 
-// The number of the refusal that a blank plate of `count` sectors with these flaws is opened with, or 0.
+// The number of the refusal that a blank plate of `count` sectors with these flaws is opened with, or 0: the tests compare numbers alone.
 fn refusal_for(heap: Global, flaws: &[Flaw], count: u8) -> Result<u8, AllocError> {
-    let memory = vec![in heap; 0u8; CELL_BYTES * count as usize]?;
+    let memory = vec![in heap; 0u8; CELL_BYTES * usize::from(count)]?;
     match Plate::open(memory, flaws.to_vec(heap)?, u32::from(count)) {
         Ok(_) => Ok(0),
         Err(unopened) => Ok(u8::from(unopened.fault.refusal)),

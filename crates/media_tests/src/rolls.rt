@@ -17,7 +17,7 @@ fn memory_of(heap: Global, verdicts: &[u8], numbers: &[u32]) -> Result<Vec<u8>, 
     Ok(memory)
 }
 
-// The number of the refusal that a roll of three sectors is opened with, or 0.
+// The number of the refusal that a roll of three sectors is opened with, or 0: the tests compare numbers alone.
 fn refusal_for(heap: Global, verdicts: &[u8], numbers: &[u32]) -> Result<u8, AllocError> {
     match Roll::open(heap, memory_of(heap, verdicts, numbers)?, 3) {
         Ok(_) => Ok(0),

@@ -13,6 +13,7 @@ pub enum Layer {
 }
 
 impl Layer {
+    // `Display` writes it; this is for who wants the word alone, with no formatter.
     pub fn name(self) -> &'static str
         ensures { result.now ≡ layer_name self }
     {
@@ -73,7 +74,8 @@ impl From<Refusal> for u8 {
     }
 }
 
-// A refusal with the layer that found it and its place: a sector, a block, or 0 where it has none.
+// A refusal with the layer that found it and its place: a sector, a block, or 0 where it has none. No `Option`: which
+// place a refusal tells is laid down with its number, and 0 is what it tells where there is nothing to point to.
 #[derive(Clone, Copy, PartialEq, Eq, Debug)]
 pub struct Fault {
     pub refusal: Refusal,

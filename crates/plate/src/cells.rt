@@ -2,7 +2,7 @@
 ghost use Rattle.std.specs.Prelude.{◌≡◌, ◌+◌, ◌*◌, ◌≤◌, length, Decides};
 ghost use Rattle.plate.specs.Cells.{Marked, image_at, mark_at, with_image};
 
-use medium::IMAGE_BYTES;
+use medium::{IMAGE_BYTES, Image};
 
 pub const CELL_BYTES: usize = IMAGE_BYTES + 1;
 
@@ -12,7 +12,7 @@ pub(crate) const BURNT: u8 = 1;
 
 // The mark of a sector's cell, and the image behind it.
 #[tactic(auto, using(std::proofs::lemmas::List::take_rest))]
-pub(crate) fn cell_of(memory: &[u8], sector: u32) -> (u8, &[u8; IMAGE_BYTES])
+pub(crate) fn cell_of(memory: &[u8], sector: u32) -> (u8, &Image)
     requires { 525 * sector + 525 ≤ length memory.now }
     ensures mark { result.0 ≡ mark_at memory.now sector }
     ensures image { result.1.now ≡ image_at memory.now sector }
@@ -29,7 +29,7 @@ pub(crate) fn are_marked(memory: &[u8], count: u32) -> bool
     (0..count).all(|sector| cell_of(memory, sector).0 <= BURNT)
 }
 
-// Writes the image into the sector's cell, and marks it as burnt.
+// Writes the image into the sector's cell, and marks it as burnt. The image is a slice, as the interface hands it over.
 pub(crate) fn fill_cell(memory: &mut [u8], sector: u32, image: &[u8])
     requires { (525 * sector + 525 ≤ length memory.old) × (length image.now ≡ 524) }
     ensures { memory.new ≡ with_image memory.old sector image.now }

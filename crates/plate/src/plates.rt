@@ -17,7 +17,7 @@ pub struct Plate {
     ghost row: { length (plate_sectors memory.items flaws.items count) ≡ count },
 }
 
-// Why a plate was not opened, and what was given to open it.
+// Why a plate was not opened, and what was given to open it. A roll has no flaws, and one reason more, so each has its own.
 #[derive(Drop)]
 pub struct Unopened {
     pub fault: Fault,

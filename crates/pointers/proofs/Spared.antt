@@ -33,6 +33,10 @@ module _ (l : Layout) where
   unfolding secondaries
   length_secondaries = length-range_with_len (31 * l.start) l.secondary
 
+  pub length_spares_of : (b : ℕ) → length (spares_of l b) ≡ l.spares + l.secondary
+  unfolding spares_of
+  length_spares_of b = length-append (primaries l (b / l.homes)) (secondaries l) ∙ ap₂ ◌+◌ (length_primaries (b / l.homes)) length_secondaries
+
   length_groups : (k : ℕ) → length (group_spares l k) ≡ k * l.spares
   length_groups zero = omega arith
   length_groups (suc k) = length-append (group_spares l k) (primaries l k) ∙ ap₂ ◌+◌ (length_groups k) (length_primaries k) ∙ omega (arith, add-mul k 1 l.spares)

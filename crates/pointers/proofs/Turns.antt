@@ -1,13 +1,12 @@
 -- What ranges and lists of spares give, turn by turn. No file that specs/ leads to imports this one.
-use Rattle.std.proofs.Common.{◌≡◌, ℕ, suc, ◌+◌, ◌-◌, ◌<◌, ◌≤◌, List, [], ◌∷◌, ◌++◌, length, get_or, sym, ap, ◌∙◌, ap₂, subst, refl, arith}
+use Rattle.std.proofs.Common.{◌≡◌, ℕ, suc, ◌+◌, ◌-◌, List, [], ◌∷◌, ◌++◌, sym, ap, ◌∙◌, ap₂, subst, refl, arith}
 use mathlib.Core.List.Memᴰ
 use mathlib.Core.List.{Memᴰ}
 use Rattle.std.specs.List.{range_with_len}
 use Rattle.pointers.specs.Ranges.{in_range}
 use Rattle.std.proofs.iter.Yields.{nat_range_steps}
-use Rattle.std.proofs.lemmas.List.{append-nil, length-append, map-id}
+use Rattle.std.proofs.lemmas.List.{map-id}
 use Rattle.std.proofs.lemmas.Map.Iter.{rest_so_far}
-use Rattle.std.proofs.Math.Seq.{get_or-append_seam}
 use Rattle.std.specs.Iterator.{Yields, YieldsFirst}
 use Rattle.std.specs.Prelude.{Some, None}
 use Rattle.std.specs.declared.ops.Range.{Range}
@@ -34,31 +33,8 @@ range_done s t h =
 pub in_range_run : (a b k : ℕ) → b ≡ a + k → in_range (record { start = a; end = b }) ≡ range_with_len a k
 in_range_run a b k e = let left : b - a ≡ k = omega arith in ap (range_with_len a) left
 
--- an iterator that shows what it has left began at s, gave xs, and has t left
-module _ (s t xs : List ℕ) (so_far : Yields (YieldsFirst (λ rest. rest)) s xs t) where
-  split_so_far : s ≡ xs ++ t
-  split_so_far = rest_so_far (λ y. y) xs s t so_far ∙ ap (λ ys. ys ++ t) (map-id xs)
-
-  -- what it gives next is a member
-  pub turn_within : (u : List ℕ) (x : ℕ) → t ≡ x ∷ u → Memᴰ x s
-  turn_within u x more = subst (Memᴰ x) (sym split_so_far) (Memᴰ.append_right xs (subst (Memᴰ x) (sym more) (Memᴰ.head refl)))
-
-  pub turn_at : (u : List ℕ) (x : ℕ) → t ≡ x ∷ u → (length xs < length s) × (get_or s (length xs) 0 ≡ x)
-  turn_at u x more =
-      let e : s ≡ xs ++ (x ∷ u) = split_so_far ∙ ap (λ ys. xs ++ ys) more in
-      (omega (arith, ap length e, length-append xs (x ∷ u)), ap (λ ys. get_or ys (length xs) 0) e ∙ get_or-append_seam xs x u 0)
-
-  -- where nothing is left, everything was given
-  pub turn_end : t ≡ [] → s ≡ xs
-  turn_end none = split_so_far ∙ ap (λ ys. xs ++ ys) none ∙ append-nil xs
-
-  -- the same of the list that the iterator was made of
-  module _ (all : List ℕ) (of : s ≡ all) where
-    pub turn_in : (u : List ℕ) (x : ℕ) → t ≡ x ∷ u → (length xs < length all) × (get_or all (length xs) 0 ≡ x)
-    turn_in u x more = subst (λ ys. (length xs < length ys) × (get_or ys (length xs) 0 ≡ x)) of (turn_at u x more)
-
-    pub turn_past : t ≡ [] → length all ≤ length xs
-    turn_past none = let e = sym of ∙ turn_end none in omega (arith, ap length e)
-
-pub one_more : (xs : List ℕ) (x : ℕ) → length xs + 1 ≡ length (xs ++ x ∷ [])
-one_more xs x = omega (arith, length-append xs (x ∷ []))
+-- what an iterator that shows what it has left gives next is in the list that it was made of
+pub turn_within : (s t xs : List ℕ) → Yields (YieldsFirst (λ rest. rest)) s xs t → (all : List ℕ) → s ≡ all → (later : List ℕ) (x : ℕ) → t ≡ x ∷ later → Memᴰ x all
+turn_within s t xs so_far all of later x more =
+    let e = rest_so_far (λ y. y) xs s t so_far ∙ ap₂ ◌++◌ (map-id xs) more in
+    subst (Memᴰ x) (sym e ∙ of) (Memᴰ.append_right xs (Memᴰ.head refl))

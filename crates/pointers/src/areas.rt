@@ -4,7 +4,7 @@ ghost use Rattle.pointers.specs.Words.{purpose_in_words};
 
 use std::fmt;
 
-// What an area is for; groups are numbered from 0 on.
+// What an area is for; groups are numbered from 0 on. Another format has other uses, so each has a type of its own.
 #[derive(Clone, Copy, PartialEq, Eq, Debug)]
 pub enum Purpose {
     // The tracks that hold the copies of the layout, and no block.

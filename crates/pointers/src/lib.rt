@@ -14,4 +14,4 @@ pub use format::{BLOCK_BYTES as SHEET_BYTES, Sheet};
 pub use layout::{Layout, MOST_SPARES, SECTORS_A_TRACK};
 pub use pointers::Pointers;
 pub use pointers::lists::{Candidates, Spares};
-pub use pointers::reading::fits_format;
+pub use pointers::reading::{fits_format, last_track};

@@ -1,32 +1,17 @@
--- The loops over all spares, turn by turn: the check of the links, and the search for the spare of a home.
-use Rattle.std.proofs.Common.{◌≡◌, ℕ, ◌+◌, ◌<◌, ◌≤◌, Bool, true, false, cond, not, ◌&&◌, ◌||◌, eqb, List, [], ◌∷◌, length, get_or, drop, set, replicate, Some, None, sym, refl, ap, ◌∙◌, subst, ap₂, ⊎_elim, arith}
+-- The check of the links, spare by spare.
+use Rattle.std.proofs.Common.{◌≡◌, ℕ, ◌<◌, Bool, true, false, cond, not, ◌&&◌, ◌||◌, eqb, List, [], ◌∷◌, length, get_or, set, replicate, Some, None, sym, refl, ap, ◌∙◌, subst, ⊎_elim, arith}
 use mathlib.Core.List.{Memᴰ}
-use Rattle.format.proofs.Copying.{mem_at}
-use Rattle.format.specs.Blocks.{sound_at, spare_of, spoiled_at}
-use Rattle.format.specs.Sectors.{image_at}
+use Rattle.format.specs.Blocks.{sound_at}
 use Rattle.medium.specs.Sectors.{Sector}
 use Rattle.pointers.proofs.Spared.{may_only}
 use Rattle.pointers.specs.Rules.{last_track}
 use Rattle.pointers.specs.Spares.{all_spares, may_replace}
 use Rattle.pointers.specs.declared.pointers.Pointers.{Pointers}
 use Rattle.pointers.specs.declared.layout.Layout.{Layout}
-use Rattle.pointers_format.specs.Linked.{found_step}
 use Rattle.pointers_format.specs.Mounted.{few_sectors, home_inside, rules, well_parts}
-use Rattle.pointers_format.specs.Linking.{faulty, faulty_among, has, links, links_among, marks_with, named_by, names, passes, passes_unless, points_well, taken_with}
-use Rattle.pointers_format.specs.Pointing.{spare_tail, target}
-use Rattle.std.proofs.lemmas.List.{at_drop_all, at_drop_more, get_or-replicate, get_or-set_other, get_or-set_same, length-replicate, length-set}
+use Rattle.pointers_format.specs.Linking.{faulty, faulty_among, has, marks_with, named_by, passes, passes_unless, points_well, taken_with}
+use Rattle.std.proofs.lemmas.List.{get_or-replicate, get_or-set_other, get_or-set_same, length-replicate, length-set}
 use Rattle.std.proofs.lemmas.Bool.{and_parts, cases_Bool, cases_eq, cond-false, cond-true, eq-eqb, ne_eqb, or_left}
-use Rattle.std.specs.Str.{bytes_eq}
-
-pub named_is : (s : List Sector) (p : ℕ) (image : List ℕ) (h : ℕ) → image ≡ image_at s p → h ≡ target image → named_by s p ≡ h
-unfolding named_by
-named_is s p image h e f = ap target (sym e) ∙ sym f
-
--- the test of a spare from its image
-pub well_by : (l : Layout) (s : List Sector) (p : ℕ) (image : List ℕ) (h : ℕ) → image ≡ image_at s p → h ≡ target image → points_well l s p ≡ (may_replace l p h && (bytes_eq (drop 512 image) (spare_tail p h) && spoiled_at s h))
-unfolding points_well
-well_by l s p image h e f =
-    ap₂ (λ k d. may_replace l p k && (bytes_eq (drop 512 d) (spare_tail p k) && spoiled_at s k)) (named_is s p image h e f) (sym e)
 
 -- a home that a spare may stand for lies on the medium
 pub may_inside : (g : Pointers) (p h : ℕ) → Memᴰ p (all_spares g.layout) → may_replace g.layout p h ≡ true → (h < g.sectors) × (h < 620000)
@@ -39,55 +24,41 @@ may_inside g p h m t =
 pub well_inside : (g : Pointers) (s : List Sector) (p : ℕ) → Memᴰ p (all_spares g.layout) → points_well g.layout s p ≡ true → named_by s p < 620000
 well_inside g s p m t = (may_inside g p (named_by s p) m (well_parts g.layout s p t).0).1
 
--- a sound spare that points well, by its image and the mark of the home
-module _ (g : Pointers) (s : List Sector) (p : ℕ) (marks : List Bool) (image : List ℕ) (h : ℕ) (m : Memᴰ p (all_spares g.layout)) (so : sound_at s p ≡ true) (well : points_well g.layout s p ≡ true) (e : image ≡ image_at s p) (f : h ≡ target image) where
-  pub home_small : h < 620000
-  home_small = subst (λ x. x < 620000) (named_is s p image h e f) (well_inside g s p m well)
-
-  pub passes_by : (b : Bool) → get_or marks h false ≡ b → not b ≡ passes_unless g.layout s (get_or marks (named_by s p) false) p
-  passes_by b t =
-      sym (cond-true (sound_at s p) _ _ so ∙ ap₂ ◌&&◌ well (ap (λ x. not (get_or marks x false)) (named_is s p image h e f) ∙ ap not t))
-
-  pub marks_by : set marks h true ≡ marks_with s marks p
-  marks_by = ap (λ x. set marks x true) (sym (named_is s p image h e f)) ∙ sym (cond-true (sound_at s p) _ _ so)
-
--- before the turn at i the homes in taken are marked, and what is left to check comes to the whole
-pub record Checking (l : Layout) (s : List Sector) (marks : List Bool) (i : ℕ) : Type 0 where
+-- the homes in taken are marked, and what is left to check comes to the whole
+pub record Checking (l : Layout) (s : List Sector) (marks : List Bool) (rest : List ℕ) : Type 0 where
   pub taken : List ℕ
-  pub still : faulty_among l s taken (drop i (all_spares l)) ≡ faulty l s
+  pub still : faulty_among l s taken rest ≡ faulty l s
   pub marked : (h : ℕ) → h < 620000 → get_or marks h false ≡ has taken h
   pub as_many : length marks ≡ 620000
+  pub listed : (p : ℕ) → Memᴰ p rest → Memᴰ p (all_spares l)
 
-pub checking_start : (l : Layout) (s : List Sector) (n : ℕ) → n ≡ 620000 → Checking l s (replicate n false) 0
+pub checking_start : (l : Layout) (s : List Sector) (n : ℕ) (rest : List ℕ) → n ≡ 620000 → rest ≡ all_spares l → Checking l s (replicate n false) rest
 unfolding faulty
-checking_start l s n e = record { taken = []; still = refl; marked = λ h k. get_or-replicate n h false false (omega arith); as_many = length-replicate n false ∙ e }
+checking_start l s n rest e all = record { taken = []; still = ap (faulty_among l s []) all; marked = λ h k. get_or-replicate n h false false (omega arith); as_many = length-replicate n false ∙ e; listed = λ p m. subst (Memᴰ p) all m }
 
-module _ (g : Pointers) (s : List Sector) (marks : List Bool) (i : ℕ) (k : Checking g.layout s marks i) where
-  pub checking_done : length (all_spares g.layout) ≤ i → None ≡ faulty g.layout s
-  checking_done h = sym (at_drop_all (faulty_among g.layout s k.taken) (all_spares g.layout) i h) ∙ k.still
+module _ (g : Pointers) (s : List Sector) (marks : List Bool) (rest : List ℕ) (k : Checking g.layout s marks rest) where
+  pub checking_done : rest ≡ [] → None ≡ faulty g.layout s
+  checking_done none = ap (faulty_among g.layout s k.taken) (sym none) ∙ k.still
 
-  module _ (more : i < length (all_spares g.layout)) where
+  module _ (p : ℕ) (later : List ℕ) (more : rest ≡ p ∷ later) where
     abbrev l : Layout
     l = g.layout
-
-    abbrev p : ℕ
-    p = get_or (all_spares l) i 0
 
     abbrev seen : Bool
     seen = get_or marks (named_by s p) false
 
-    listed : Memᴰ p (all_spares l)
-    listed = mem_at (all_spares l) i more
+    pub checking_listed : Memᴰ p (all_spares l)
+    checking_listed = k.listed p (subst (Memᴰ p) (sym more) (Memᴰ.head refl))
 
     passes_same : passes_unless l s seen p ≡ passes l s k.taken p
     passes_same =
         let n = has k.taken (named_by s p) in
-        let well : points_well l s p ≡ true → (points_well l s p && not seen) ≡ (points_well l s p && not n) = λ t. ap (λ b. points_well l s p && not b) (k.marked (named_by s p) (well_inside g s p listed t)) in
+        let well : points_well l s p ≡ true → (points_well l s p && not seen) ≡ (points_well l s p && not n) = λ t. ap (λ b. points_well l s p && not b) (k.marked (named_by s p) (well_inside g s p checking_listed t)) in
         let ill : points_well l s p ≡ false → (points_well l s p && not seen) ≡ (points_well l s p && not n) = λ t. ap (λ b. b && not seen) t ∙ sym (ap (λ b. b && not n) t) in
         ap (λ b. cond (sound_at s p) b true) (⊎_elim well ill (cases_Bool (points_well l s p)))
 
-    split : cond (passes l s k.taken p) (faulty_among l s (taken_with s k.taken p) (drop (i + 1) (all_spares l))) (Some p) ≡ faulty l s
-    split = sym (at_drop_more (faulty_among l s k.taken) (all_spares l) i 0 more) ∙ k.still
+    split : cond (passes l s k.taken p) (faulty_among l s (taken_with s k.taken p) later) (Some p) ≡ faulty l s
+    split = ap (faulty_among l s k.taken) (sym more) ∙ k.still
 
     pub checking_stop : passes_unless l s seen p ≡ false → Some p ≡ faulty l s
     checking_stop n = sym (cond-false (passes l s k.taken p) _ _ (sym passes_same ∙ n)) ∙ split
@@ -100,7 +71,7 @@ module _ (g : Pointers) (s : List Sector) (marks : List Bool) (i : ℕ) (k : Che
     marked_next y h low =
         let n = named_by s p in
         let sound : sound_at s p ≡ true → get_or (marks_with s marks p) h false ≡ has (taken_with s k.taken p) h =
-        λ t. let small = well_inside g s p listed (passed_well y t) in
+        λ t. let small = well_inside g s p checking_listed (passed_well y t) in
         let m = k.as_many in
         let here : n ≡ h → get_or (set marks n true) h false ≡ (eqb n h || has k.taken h) =
         λ e. ap (λ x. get_or (set marks n true) x false) (sym e) ∙ get_or-set_same marks n true false (omega arith) ∙ sym (or_left (eqb n h) _ (eq-eqb n h e)) in
@@ -115,26 +86,12 @@ module _ (g : Pointers) (s : List Sector) (marks : List Bool) (i : ℕ) (k : Che
     marks_length =
         ⊎_elim (λ t. ap length (cond-true (sound_at s p) (set marks (named_by s p) true) marks t) ∙ length-set marks (named_by s p) true) (λ t. ap length (cond-false (sound_at s p) (set marks (named_by s p) true) marks t)) (cases_Bool (sound_at s p))
 
-    pub checking_next : (t : List Bool) → t ≡ marks_with s marks p → passes_unless l s seen p ≡ true → Checking l s t (i + 1)
+    pub checking_next : (t : List Bool) → t ≡ marks_with s marks p → passes_unless l s seen p ≡ true → Checking l s t later
     checking_next t e y =
         record {
           taken = taken_with s k.taken p;
           still = sym (cond-true (passes l s k.taken p) _ _ (sym passes_same ∙ y)) ∙ split;
           marked = λ h low. ap (λ ms. get_or ms h false) e ∙ marked_next y h low;
           as_many = ap length e ∙ marks_length ∙ k.as_many;
+          listed = λ q m. k.listed q (subst (Memᴰ q) (sym more) (Memᴰ.tail m));
         }
-
--- the search for the spare of the home h
-module _ (l : Layout) (s : List Sector) (h i : ℕ) (inv : spare_of (links_among s (drop i (all_spares l))) h ≡ spare_of (links l s) h) where
-  pub search_done : length (all_spares l) ≤ i → None ≡ spare_of (links l s) h
-  search_done e = sym (at_drop_all (λ ps. spare_of (links_among s ps) h) (all_spares l) i e) ∙ inv
-
-  module _ (more : i < length (all_spares l)) where
-    step : cond (names s (get_or (all_spares l) i 0) h) (Some (get_or (all_spares l) i 0)) (spare_of (links_among s (drop (i + 1) (all_spares l))) h) ≡ spare_of (links l s) h
-    step = sym (found_step s (get_or (all_spares l) i 0) (drop (i + 1) (all_spares l)) h) ∙ sym (at_drop_more (λ ps. spare_of (links_among s ps) h) (all_spares l) i 0 more) ∙ inv
-
-    pub search_found : names s (get_or (all_spares l) i 0) h ≡ true → Some (get_or (all_spares l) i 0) ≡ spare_of (links l s) h
-    search_found t = sym (cond-true (names s (get_or (all_spares l) i 0) h) _ _ t) ∙ step
-
-    pub search_next : names s (get_or (all_spares l) i 0) h ≡ false → spare_of (links_among s (drop (i + 1) (all_spares l))) h ≡ spare_of (links l s) h
-    search_next t = sym (cond-false (names s (get_or (all_spares l) i 0) h) _ _ t) ∙ step

@@ -11,8 +11,13 @@ use Rattle.pointers_format.specs.Initialising.{InitialiseRefused, Initialised, i
 use Rattle.pointers_format.specs.Meaning.{BlockStored, blocks_of, home_of, left_of, size_of, stored_of}
 use Rattle.pointers_format.specs.Mounting.{MountRefused, Mounted, mounting}
 use Rattle.pointers_format.specs.Storing.{Place, StoredSectors}
+use Rattle.pointers_format.specs.Mounted.{size}
 use Rattle.pointers_format.specs.declared.format_a.FormatA.{FormatA}
 use Rattle.std.proofs.lemmas.Bool.{cases_Bool, cond-false, cond-true, eq-eqb, ne_eqb}
+
+-- a medium that mounts has the size of its layout
+pub fits : (s : List Sector) (f : FormatA) → mounting s ≡ Ok f → eqb (length s) (size_of f) ≡ true
+fits s f e = eq-eqb _ _ (size s f e)
 
 pub mount_means : (s : List Sector) (r : Result FormatA Fault) → r ≡ mounting s → MatchResult r (Mounted s) (MountRefused s)
 mount_means s (Ok f) e = mount_accepted s f (sym e)

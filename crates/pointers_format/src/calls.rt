@@ -16,6 +16,7 @@ use pointers::Pointers;
 
 impl FormatA {
     // Initialises a blank medium with the layout of the sheet.
+    #[tactic(auto, using(crate::proofs::Meant::initialise_means, format::proofs::Copying::lowest_is, crate::specs::Mounted::sheet_good), unfolding(crate::specs::Initialising::initialising, crate::specs::Initialising::initialised))]
     pub fn initialise<M: Medium>(medium: &mut M, sheet: &Sheet) -> Result<FormatA, Fault>
         ensures answer { result ≡ initialising (M.Medium.sectors medium.old) sheet.now }
         ensures after { M.Medium.sectors medium.new ≡ initialised (M.Medium.sectors medium.old) sheet.now }
@@ -32,6 +33,7 @@ impl FormatA {
     }
 
     // Mounts a medium by its first sound copy of the layout.
+    #[tactic(auto, using(crate::proofs::Meant::mount_means), unfolding(crate::specs::Mounting::mounting))]
     pub fn mount<M: Medium>(medium: &M) -> Result<FormatA, Fault>
         ensures answer { result ≡ mounting (M.Medium.sectors medium.now) }
         ensures meaning { MatchResult result (Mounted (M.Medium.sectors medium.now)) (MountRefused (M.Medium.sectors medium.now)) }
@@ -55,7 +57,8 @@ impl FormatA {
         Ok(())
     }
 
-    // Stores a block, or refuses it by 14 where no place was left to it.
+    // Stores a block, or refuses it by 14 where no place was left to it. Apart from `store`, so that what that means is
+    // shown once, whatever way this ends.
     fn record<M: Medium>(&self, medium: &mut M, block: u32, bytes: &Block) -> Result<(), Fault>
         requires there { block < blocks_of self.now }
         requires unwritten { blank_at (M.Medium.sectors medium.old) (home_of self.now block) ≡ true }
@@ -70,6 +73,7 @@ impl FormatA {
     }
 
     // Stores a block whose home is blank.
+    #[tactic(auto, using(crate::proofs::Meant::block_stored))]
     pub fn store<M: Medium>(&self, medium: &mut M, block: u32, bytes: &Block) -> Result<(), Fault>
         requires there { block < blocks_of self.now }
         requires unwritten { blank_at (M.Medium.sectors medium.old) (home_of self.now block) ≡ true }

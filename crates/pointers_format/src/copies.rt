@@ -9,14 +9,15 @@ ghost use Rattle.pointers.specs.Rules.{fits_format, last_track};
 use crate::pointer::image_of;
 use format::{burn_copies, find_copy};
 use medium::{Fault, Image, Layer, Medium, Refusal};
-use pointers::{Pointers, SECTORS_A_TRACK, fits_format};
+use pointers::{Pointers, SECTORS_A_TRACK, fits_format, last_track};
 
 // Where the copies stand on a medium of so many sectors.
+#[tactic(auto, unfolding(crate::specs::Copies::copies))]
 fn copies(sectors: u32) -> [u32; 4]
     requires { fits_format sectors ≡ true }
     ensures { result ≡ copies (last_track sectors) }
 {
-    let last = sectors / SECTORS_A_TRACK - 1;
+    let last = last_track(sectors);
     [
         0,
         SECTORS_A_TRACK + 15,
@@ -32,7 +33,9 @@ fn copy_image(geometry: &Pointers) -> Image
     image_of(&geometry.write(), [0xFF; 12])
 }
 
-// Burns the sheet into all four sectors of a blank medium; whether one of them proves sound.
+// Burns the sheet into all four sectors of a blank medium; whether one of them proves sound. Layout and medium go side by
+// side, as in storing.rt.
+#[tactic(auto, using(crate::specs::Begun::copies_apart, pointers::proofs::Ruled::size_held), unfolding(crate::specs::Initialising::with_copies))]
 pub(crate) fn burn_sheet<M: Medium>(geometry: &Pointers, medium: &mut M) -> Result<bool, Fault>
     requires sized { length (M.Medium.sectors medium.old) ≡ geometry.now.sectors }
     requires blank { lowest_from 0 (M.Medium.sectors medium.old) ≡ None }
@@ -47,6 +50,7 @@ pub(crate) fn burn_sheet<M: Medium>(geometry: &Pointers, medium: &mut M) -> Resu
 }
 
 // The geometry of a medium, by the first sound copy.
+#[tactic(auto, using(crate::specs::Begun::copies_inside, pointers::proofs::Ruled::sized), unfolding(crate::specs::Mounting::geometry_of))]
 pub(crate) fn read_geometry<M: Medium>(medium: &M) -> Result<Pointers, Fault>
     ensures { result ≡ geometry_of (M.Medium.sectors medium.now) }
 {

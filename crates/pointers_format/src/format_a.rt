@@ -19,6 +19,7 @@ pub struct FormatA {
     pub(crate) geometry: Pointers,
 }
 
+// The addressing of `Pointers`: a format is an addressing, and this type is another.
 impl Addressing for FormatA {
     const SECTORS_PER_TRACK: u32 = SECTORS_A_TRACK;
 
@@ -70,6 +71,7 @@ impl Format for FormatA {
         FormatA::mount(medium)
     }
 
+    #[tactic(auto, using(crate::proofs::Meant::fits))]
     fn store<M: Medium>(&self, medium: &mut M, block: u32, bytes: &Block) -> Result<(), Fault> {
         FormatA::store(self, medium, block, bytes)
     }
@@ -82,6 +84,7 @@ impl Format for FormatA {
         self.geometry.home_of(block)
     }
 
+    #[tactic(auto, using(crate::proofs::Meant::fits))]
     fn linked_spare<M: Medium>(&self, medium: &M, sector: u32) -> Option<u32> {
         FormatA::linked_spare(self, medium, sector).unwrap_or(None)
     }

@@ -51,6 +51,7 @@ pub(crate) struct OnMedium<'a, M: Medium> {
 
 impl<M: Medium> OnMedium<'_, M> {
     // Whether a sound spare with this image points to itself, and twice to a spoiled home that it may stand for.
+    #[tactic(auto, using(crate::specs::Mounted::spare_inside, crate::specs::Mounted::few_sectors, crate::proofs::Checking::may_inside), unfolding(crate::specs::Linking::points_well, crate::specs::Linking::named_by))]
     fn points_well(&self, spare: u32, image: &Image) -> Result<bool, Fault>
         requires listed { Memᴰ spare (all_spares self.now.geometry.now.layout) }
         requires shown { image.now ≡ image_at (M.Medium.sectors self.now.medium.now) spare }
@@ -67,6 +68,7 @@ impl<M: Medium> OnMedium<'_, M> {
     }
 
     // Whether the spare is unsound, or a valid link to a home that is not marked yet; that home is then marked.
+    #[tactic(auto, using(crate::specs::Mounted::spare_inside, crate::proofs::Checking::well_inside), unfolding(crate::specs::Linking::named_by))]
     fn check_link(&self, spare: u32, named: &mut Marks) -> Result<bool, Fault>
         requires { Memᴰ spare (all_spares self.now.geometry.now.layout) }
         ensures answer { result ≡ Ok (passes_unless self.now.geometry.now.layout (M.Medium.sectors self.now.medium.now) (slice_index_or named.old (named_by (M.Medium.sectors self.now.medium.now) spare) false) spare) }
@@ -95,6 +97,7 @@ impl<M: Medium> OnMedium<'_, M> {
     }
 
     // The spare that is linked to the home, if one is.
+    #[tactic(auto, using(crate::specs::Linked::found_step), unfolding(crate::specs::Linking::links))]
     pub(crate) fn find_spare(&self, home: u32) -> Result<Option<u32>, Fault>
         ensures { result ≡ Ok (spare_of (links self.now.geometry.now.layout (M.Medium.sectors self.now.medium.now)) home) }
     {

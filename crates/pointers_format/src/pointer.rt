@@ -17,7 +17,8 @@ type Pointer = [u8; 4];
 
 pub(crate) type Tail = [u8; 12];
 
-// Two bytes of track, one for the place on it, and (FF).
+// Two bytes of track, one for the place on it, and (FF). What is required of a sector's number its caller knows; a type
+// for such numbers would have to be made anew wherever one is read or counted.
 fn pointer_to(sector: u32) -> Pointer
     requires { sector < 620000 }
     ensures { result ≡ pointer_to sector }
@@ -27,7 +28,7 @@ fn pointer_to(sector: u32) -> Pointer
     [high, low, address.sector as u8, FILLER]
 }
 
-// A pointer to the sector itself, and twice one to another.
+// A pointer to the sector itself, and twice one to another. Byte by byte: cutting slices would say no more.
 fn tail_of(own: Pointer, other: Pointer) -> Tail
     ensures { result ≡ own ++ (other ++ other) }
 {
@@ -57,7 +58,7 @@ fn pointer_to_spare(geometry: &Pointers, block: u32) -> Pointer
 }
 
 // A home points to itself, and twice to its first spare.
-#[tactic(auto, unfolding(crate::specs::Pointing::home_tail))]
+#[tactic(auto, using(crate::specs::Mounted::few_sectors, crate::specs::Mounted::home_inside), unfolding(crate::specs::Pointing::home_tail))]
 pub(crate) fn home_tail(geometry: &Pointers, block: u32) -> Tail
     requires { block < blocks geometry.now.layout }
     ensures { result ≡ home_tail (home geometry.now.layout block) (spares_of geometry.now.layout block) }

@@ -31,6 +31,7 @@ fn try_spare<M: Medium>(medium: &mut M, spare: u32, home: u32, bytes: &Block) ->
 }
 
 // Tries the spares of the block until one proves sound; whether one does.
+#[tactic(auto, using(crate::proofs::Trying::trying_done, crate::proofs::Trying::trying_found))]
 fn try_spares<M: Medium>(
     geometry: &Pointers,
     medium: &mut M,
@@ -52,6 +53,7 @@ fn try_spares<M: Medium>(
 }
 
 // Stores a block whose home is blank; whether a place was left to it.
+#[tactic(auto, using(crate::specs::Stored::home_there, medium::proofs::Burns::after_length, crate::proofs::Placed::in_home, crate::proofs::Placed::in_spares))]
 pub(crate) fn place<M: Medium>(
     geometry: &Pointers,
     medium: &mut M,

@@ -8,7 +8,7 @@ use std::test::Fail;
 // Ten tracks of 31 sectors.
 const EXAMPLE_SECTORS: u32 = 310;
 
-// Two groups of 40 homes and 5 spares, and a track of secondary spares behind them.
+// Two groups of 40 homes and 5 spares, and a track of secondary spares behind them. Tests have examples of their own.
 fn example() -> [u8; 512] {
     let mut sheet = [0xFF; 512];
     sheet[0..14].copy_from_slice(&[0x0A, 0x0A, 3, 0x10, 0, 2, 0, 0, 0, 40, 0, 0, 0, 5]);
@@ -25,11 +25,12 @@ fn plate(heap: Global, flaws: &[Flaw]) -> Result<Option<Plate>, AllocError> {
     }
 }
 
+// A line for each crate of tests: one for both would be a crate of its own.
 fn flaw(offset: u32, length: u32) -> Flaw {
     Flaw { offset, length }
 }
 
-// The number and the place of a refusal, or zeros.
+// The number and the place of a refusal, or zeros: the tests compare numbers alone.
 fn told<T: Drop>(answer: Result<T, Fault>) -> (u8, u32) {
     match answer {
         Ok(_) => (0, 0),

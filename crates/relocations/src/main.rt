@@ -2,7 +2,7 @@
 #![tactic(auto)]
 
 use anyhow::anyhow;
-use format::{Format, address_of};
+use format::{BLOCK_BYTES, Format, Sheet, address_of};
 use medium::{Fault, IMAGE_BYTES, Medium, Reading};
 use plate::{CELL_BYTES, Flaw, Plate};
 use pointers_format::FormatA;
@@ -28,8 +28,6 @@ const FLAWS: [Flaw; 3] = [
 ];
 
 const BLOCKS: [u32; 2] = [0, 40];
-
-const BLOCK_BYTES: usize = 512;
 
 fn main(rt: HostRuntime) -> anyhow::Result<()> {
     print_relocations(&rt)
@@ -107,14 +105,14 @@ fn print_spare(
 
 // Two groups of 40 homes and 5 spares, and a track of secondary spares behind them. Each program has its own example:
 // a crate for eleven numbers would be no plainer.
-fn pointers_sheet() -> [u8; 512] {
+fn pointers_sheet() -> Sheet {
     let mut sheet = [0xFF; 512];
     sheet[0..14].copy_from_slice(&[0x0A, 0x0A, 3, 0x10, 0, 2, 0, 0, 0, 40, 0, 0, 0, 5]);
     sheet[30..38].copy_from_slice(&[0, 0, 0, 6, 0, 0, 0, 31]);
     sheet
 }
 
-// Bytes in hexadecimal.
+// Bytes in hexadecimal. Sector numbers are told otherwise in the other program: no common form.
 #[derive(Drop)]
 struct Bytes<'a>(&'a [u8]);
 

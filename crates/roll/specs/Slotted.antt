@@ -25,7 +25,7 @@ module _ (xs : List ℕ) (p : ℕ) where
   Told n i None = (k : ℕ) → k < n → slot_number xs p k ≢ i
   Told n i (Some k) = (k < n) × (slot_number xs p k ≡ i)
 
-  slot_step : (n i : ℕ) → slot_of xs p (n + 1) i ≡ cond (slot_number xs p n == i) (Some n) (slot_of xs p n i)
+  pub slot_step : (n i : ℕ) → slot_of xs p (n + 1) i ≡ cond (slot_number xs p n == i) (Some n) (slot_of xs p n i)
   unfolding slot_of
   slot_step n i = ap (λ m. slot_of xs p m i) (add-one n)
 
@@ -50,27 +50,33 @@ module _ (xs : List ℕ) (p : ℕ) where
   slot_is n i o one h = same_told n i (slot_of xs p n i) o one (told n i) h
 
   -- slot n is not used
+  pub unused_more : (n u : ℕ) → UsedSlots xs p n u → slot_number xs p n ≡ 4294967295 → UsedSlots xs p (n + 1) u
+  unused_more n u s e = (omega (arith, s.0), s.1, s.2, λ k l m. grind arith)
+
   pub filled_unused : (n u : ℕ) (index : List (Option ℕ)) → p ≤ 640064 → slot_number xs p n ≡ 4294967295 → Filled xs p n index u → Filled xs p (n + 1) index u
   filled_unused n u index few e f =
       record {
-        slots = (omega (arith, f.slots.0), f.slots.1, f.slots.2, λ k l m. grind arith);
+        slots = unused_more n u f.slots e;
         long = f.long;
         indexed = λ i l. grind (arith, slot_step, f.indexed i l);
         room = f.room;
       }
 
   -- slot n holds sector m, which no slot before it holds
+  pub used_more : (n u m : ℕ) → u ≡ n → UsedSlots xs p n u → m ≡ slot_number xs p n → m < p → slot_of xs p n m ≡ None → UsedSlots xs p (n + 1) (u + 1)
+  used_more n u m eq s e l none =
+      let alone : (k : ℕ) → k < n → slot_number xs p k ≢ slot_number xs p n = λ k q z. subst (Told n m) none (told n m) k q (z ∙ sym e) in (
+        omega arith,
+        λ k q. grind (arith, alone),
+        λ j k ab. grind (arith, alone),
+        λ k a b. absurd (omega arith),
+      )
+
   module _ (n u m : ℕ) (index : List (Option ℕ)) (first : u ≡ n) (f : Filled xs p n index u) (number : m ≡ slot_number xs p n) (within : m < p) (free_now : false ≡ is_some (slice_index_or index m None)) where
-    alone : (k : ℕ) → k < n → slot_number xs p k ≢ slot_number xs p n
-    alone k q z = let t = told n m in let d = f.indexed m within in grind arith
-
-    used_more : UsedSlots xs p (n + 1) (u + 1)
-    used_more = let s = f.slots in (omega arith, λ k q. grind (arith, alone), λ j k ab. grind (arith, alone), λ k a b. absurd (omega arith))
-
     pub filled_used : Filled xs p (n + 1) (slice_set index m (Some n)) (u + 1)
     filled_used =
         record {
-          slots = used_more;
+          slots = used_more n u m first f.slots number within (sym (f.indexed m within) ∙ none_held _ free_now);
           long = length-set index m (Some n) ∙ f.long;
           indexed = λ i q. grind (arith, common_steps, slot_step, f.indexed i q, f.long);
           room = omega (arith, free_set index m n (omega (arith, f.long)) (none_held _ free_now), f.room);
@@ -84,8 +90,12 @@ module _ (xs : List ℕ) (p : ℕ) where
     pub broken_order : (u : ℕ) → p ≤ 640064 → UsedSlots xs p n u → u ≢ n → ⊥
     broken_order u few t gap = grind arith
 
-    pub broken_twice : (m : ℕ) (index : List (Option ℕ)) → Indexed xs p n index → m ≡ slot_number xs p n → m < p → true ≡ is_some (slice_index_or index m None) → ⊥
-    broken_twice m index h e l some = let t = told n m in let d = h m l in grind arith
+    pub broken_twice : (k : ℕ) → k < n → slot_number xs p k ≡ slot_number xs p n → ⊥
+    broken_twice k a e = grind arith
+
+    -- as the index tells it
+    pub broken_index : (m : ℕ) (index : List (Option ℕ)) → Indexed xs p n index → m ≡ slot_number xs p n → m < p → true ≡ is_some (slice_index_or index m None) → ⊥
+    broken_index m index h e l some = let t = told n m in let d = h m l in grind arith
 
 pub filled_none : (xs : List ℕ) (p : ℕ) → Filled xs p 0 (replicate p None) 0
 unfolding slot_of

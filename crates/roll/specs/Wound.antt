@@ -80,7 +80,7 @@ module _ (xs : List ℕ) (p u i : ℕ) (index : List (Option ℕ)) (image : List
   fits : p + 528 * u + 528 ≤ length xs
   fits = omega (arith, room_left)
 
-  verdict_kept : (k : ℕ) → k < p → slice_index ys k ≡ slice_index xs k
+  pub verdict_kept : (k : ℕ) → k < p → slice_index ys k ≡ slice_index xs k
   verdict_kept k h = before_slot xs (p + 528 * u) i image fits whole k 0 (omega arith)
 
   other_byte : (k j d : ℕ) → (k ≢ u) → p + 528 * k ≤ j → j < p + 528 * k + 528 → slice_index_or ys j d ≡ slice_index_or xs j d
@@ -109,7 +109,7 @@ module _ (xs : List ℕ) (p u i : ℕ) (index : List (Option ℕ)) (image : List
   alone : (k : ℕ) → k < p → slot_number xs p k ≢ i
   alone = subst (Told xs p p i) none (told xs p p i)
 
-  slots_kept : UsedSlots ys p p (u + 1)
+  pub slots_kept : UsedSlots ys p p (u + 1)
   slots_kept =
       let s = slots in
       let l = room_left in
@@ -120,7 +120,7 @@ module _ (xs : List ℕ) (p u i : ℕ) (index : List (Option ℕ)) (image : List
         (λ k l m. grind (arith, other_number)),
       )
 
-  new_slot : slot_of ys p p i ≡ Some u
+  pub new_slot : slot_of ys p p i ≡ Some u
   new_slot = slot_is ys p p i (Some u) (one_slot ys p (u + 1) i few within slots_kept) (room_left, new_number)
 
   -- the slot of another sector is not the one that was written
@@ -131,14 +131,14 @@ module _ (xs : List ℕ) (p u i : ℕ) (index : List (Option ℕ)) (image : List
   told_kept j l ne None h = λ k q e. let a = other_number k in let b = new_number in grind arith
   told_kept j l ne (Some k) h = (h.0, other_number k (not_new j k l h.1) ∙ h.1)
 
-  other_slot : (j : ℕ) → j < p → (j ≢ i) → slot_of ys p p j ≡ slot_of xs p p j
+  pub other_slot : (j : ℕ) → j < p → (j ≢ i) → slot_of ys p p j ≡ slot_of xs p p j
   other_slot j l ne = slot_is ys p p j (slot_of xs p p j) (one_slot ys p (u + 1) j few l slots_kept) (told_kept j l ne (slot_of xs p p j) (told xs p p j))
 
   held_kept : (j : ℕ) → j < p → (o : Option ℕ) → Told xs p p j o → held ys p o ≡ held xs p o
   held_kept j l None h = refl
   held_kept j l (Some k) h = ap burnt (other_image k (not_new j k l h.1))
 
-  index_kept : Indexed ys p p (slice_set index i (Some u))
+  pub index_kept : Indexed ys p p (slice_set index i (Some u))
   index_kept j l = let e = new_slot in grind (arith, common_steps, filled.indexed j l, filled.long, other_slot j l)
 
   pub filled_burnt : Filled ys p p (slice_set index i (Some u)) (u + 1)

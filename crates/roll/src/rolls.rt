@@ -15,6 +15,7 @@ pub struct Roll {
     memory: Vec<u8>,
     index: Vec<Option<u32>>,
     used: u32,
+    // as many as the index has places; a number of sectors is a `u32` in every call
     count: u32,
     ghost some: { 1 ≤ count },
     ghost few: { count ≤ 640064 },
@@ -48,7 +49,8 @@ impl From<AllocError> for WhyNot {
     }
 }
 
-// Why a roll was not opened, and the bytes that were given to open it.
+// Why a roll was not opened, and the bytes that were given to open it. A plate has flaws besides, and no index to want
+// memory for, so each has its own.
 #[derive(Drop)]
 pub struct Unopened {
     pub why: WhyNot,

@@ -1,10 +1,8 @@
 -- The sector of one shot.
-use Rattle.std.specs.Prelude.{ℕ, ◌/◌, ◌%◌, List, [], ◌∷◌, ◌++◌, replicate}
+use Rattle.std.specs.Prelude.{ℕ, ◌/◌, ◌%◌, List, ◌∷◌, ◌++◌, replicate}
+use Rattle.medium.specs.Bytes.{four_bytes}
 
--- a number in four bytes and in eight, the most significant first
-abbrev pub four_bytes : ℕ → List ℕ
-four_bytes n = (n / 16777216 % 256) ∷ (n / 65536 % 256) ∷ (n / 256 % 256) ∷ (n % 256) ∷ []
-
+-- a number in eight bytes, the most significant first
 abbrev pub eight_bytes : ℕ → List ℕ
 eight_bytes n =
     (n / 72057594037927936 % 256) ∷ (n / 281474976710656 % 256) ∷ (n / 1099511627776 % 256) ∷ (n / 4294967296 % 256)

@@ -2,8 +2,9 @@
 ghost use Rattle.std.specs.Prelude.{◌≡◌};
 ghost use Rattle.station.specs.Shots.{shot_bytes};
 
-use medium::{Burn, IMAGE_BYTES};
+use medium::{Burn, IMAGE_BYTES, Image};
 use std::alloc::{AllocError, Global};
+use std::ops::Range;
 
 // Shots that are recorded one after the other, a sector each.
 #[derive(Clone, Copy)]
@@ -17,14 +18,12 @@ pub(crate) struct Run {
 }
 
 impl Run {
-    pub(crate) fn last_sector(&self) -> u32 {
-        self.first_sector
-            .saturating_add(self.shots)
-            .saturating_sub(1)
+    pub(crate) fn sectors(&self) -> Range<u32> {
+        self.first_sector..self.first_sector.saturating_add(self.shots)
     }
 
-    pub(crate) fn holds(&self, sector: u32) -> bool {
-        self.first_sector <= sector && sector - self.first_sector < self.shots
+    pub(crate) fn last_sector(&self) -> u32 {
+        self.sectors().end.saturating_sub(1)
     }
 }
 
@@ -82,7 +81,7 @@ fn add_run(burns: &mut Vec<Burn>, run: &Run) -> Result<(), AllocError> {
 }
 
 // The number of the shot and its time of flight, the most significant byte first; the rest is (FF).
-fn shot_image(shot: u32, flight_ps: u64) -> [u8; IMAGE_BYTES]
+fn shot_image(shot: u32, flight_ps: u64) -> Image
     ensures { result ≡ shot_bytes shot flight_ps }
 {
     let mut image = [0xFF; IMAGE_BYTES];

@@ -1,6 +1,6 @@
 // One layout of each format, by its areas in rising order, as a person would want to see them.
 use anyhow::anyhow;
-use format::{Address, address_of};
+use format::{Address, Sheet, address_of};
 use maps::Maps;
 use pointers::Pointers;
 
@@ -17,7 +17,7 @@ pub(crate) fn print_layouts(rt: &HostRuntime) -> anyhow::Result<()> {
 
 // Two groups of 40 homes and 5 spares, and a track of secondary spares behind them. Each program has its own example:
 // a crate for eleven numbers would be no plainer.
-fn pointers_sheet() -> [u8; 512] {
+fn pointers_sheet() -> Sheet {
     let mut sheet = [0xFF; 512];
     sheet[0..14].copy_from_slice(&[0x0A, 0x0A, 3, 0x10, 0, 2, 0, 0, 0, 40, 0, 0, 0, 5]);
     sheet[30..38].copy_from_slice(&[0, 0, 0, 6, 0, 0, 0, 31]);
@@ -42,7 +42,7 @@ fn print_pointers(rt: &HostRuntime) -> anyhow::Result<()> {
 }
 
 // A band with four prime tracks, and an overflow band.
-fn maps_sheet() -> [u8; 512] {
+fn maps_sheet() -> Sheet {
     let mut sheet = [0xFF; 512];
     sheet[0..15].copy_from_slice(&[0, 0, 2, 0, 8, 0, 4, 0, 0, 0, 4, 0, 16, 0, 12]);
     sheet
@@ -64,7 +64,7 @@ fn print_maps(rt: &HostRuntime) -> anyhow::Result<()> {
     Ok(())
 }
 
-// A sector of Format A as track and place.
+// A sector of Format A as track and place. Each program says in its own words that there is none.
 fn on_track(sector: u32) -> anyhow::Result<Address> {
     match address_of::<Pointers>(sector) {
         Some(address) => Ok(address),

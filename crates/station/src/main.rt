@@ -2,6 +2,7 @@
 // sectors: the three runs of a ranging evening are burnt, read back and compared, and what must be refused is tried.
 #![tactic(auto)]
 
+use crate::report::Trial;
 use anyhow::anyhow;
 use bench::{Account, agree, bench_test};
 use medium::{Burn, Medium};
@@ -77,7 +78,11 @@ fn test_medium<M: Medium>(
 ) -> anyhow::Result<Account> {
     report::print_lowest_burnt(rt, medium)?;
     let account = bench_test(rt.alloc(), medium, plan)?;
-    report::print_account(rt, plan, &account)?;
+    let trial = Trial {
+        plan,
+        account: &account,
+    };
+    trial.print(rt)?;
     Ok(account)
 }
 
@@ -103,10 +108,9 @@ fn open_roll(rt: &HostRuntime, memory: Vec<u8>) -> anyhow::Result<Roll> {
 
 // The bytes of a blank roll: a verdict for each sector, and slots that are not used.
 fn blank_roll(heap: Global) -> Result<Vec<u8>, AllocError> {
-    let mut memory = Vec::new(heap);
-    for sector in 0..SECTORS {
-        memory.push(u8::from(is_weak(sector)))?;
-    }
+    let mut memory: Vec<u8> = (0..SECTORS)
+        .map(|sector| u8::from(is_weak(sector)))
+        .collect(heap)?;
     let unused = vec![in heap; 0xFFu8; (BYTES_A_SECTOR - 1) * SECTORS as usize]?;
     memory.extend_from_slice(unused.as_slice())?;
     Ok(memory)

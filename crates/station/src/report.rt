@@ -5,7 +5,7 @@ use medium::{Burn, Fault, IMAGE_BYTES, Medium, Refusal, Verdict, lowest_burnt};
 use roll::WhyNot;
 use std::{fmt, io};
 
-// Sector numbers beside each other, or the word `none`.
+// Sector numbers beside each other, or the word `none`. Bytes are told otherwise in the other program: no common form.
 #[derive(Drop)]
 struct Numbers<'a>(&'a [u32]);
 
@@ -33,49 +33,83 @@ pub(crate) fn print_medium(
     println!(rt; "Bench test of a {kind} of {sectors} sectors in {bytes} bytes")
 }
 
-pub(crate) fn print_account(
-    rt: &HostRuntime,
-    plan: &[Burn],
-    account: &Account,
-) -> anyhow::Result<()> {
-    println!(rt; "Burnt")?;
-    for run in &RUNS {
-        print_run(rt, run, plan, account)?;
-    }
-    println!(rt; "Refused")?;
-    print_refusals(rt, plan, account)?;
-    println!(rt; "Read back")?;
-    print_readings(rt, plan, account)
+// The burns that were asked for, and the account of them.
+#[derive(Drop)]
+pub(crate) struct Trial<'a> {
+    pub plan: &'a [Burn],
+    pub account: &'a Account,
 }
 
-// How many sectors of the run proved sound, and which proved weak.
-fn print_run(rt: &HostRuntime, run: &Run, plan: &[Burn], account: &Account) -> anyhow::Result<()> {
-    let mut sound = 0u32;
-    let mut weak = Vec::new(rt.alloc());
-    for (burn, answer) in plan.iter().zip(account.burnt.iter()) {
-        match answer {
-            Ok(Verdict::Sound) if run.holds(burn.sector) => sound = sound.saturating_add(1),
-            Ok(Verdict::Weak) if run.holds(burn.sector) => weak.push(burn.sector)?,
-            _ => {}
+impl Trial<'_> {
+    pub(crate) fn print(&self, rt: &HostRuntime) -> anyhow::Result<()> {
+        println!(rt; "Burnt")?;
+        for run in &RUNS {
+            self.print_run(rt, run)?;
         }
+        println!(rt; "Refused")?;
+        self.print_refusals(rt)?;
+        println!(rt; "Read back")?;
+        self.print_readings(rt)
     }
-    let name = run.name;
-    let first = run.first_sector;
-    let last = run.last_sector();
-    let weak = Numbers(weak.as_slice());
-    println!(rt; "  {name}, sectors {first} to {last}: {sound} sound, weak: {weak}")?;
-    Ok(())
-}
 
-fn print_refusals(rt: &HostRuntime, plan: &[Burn], account: &Account) -> anyhow::Result<()> {
-    for (burn, answer) in plan.iter().zip(account.burnt.iter()) {
-        if let Err(fault) = answer {
-            let sector = burn.sector;
-            print!(rt; "  burning sector {sector}: ")?;
-            print_fault(rt, *fault)?;
+    // How many sectors of the run proved sound, and which proved weak.
+    fn print_run(&self, rt: &HostRuntime, run: &Run) -> anyhow::Result<()> {
+        let sectors = run.sectors();
+        let answers = self.account.burnt.as_slice();
+        let sound = self
+            .plan
+            .iter()
+            .zip(answers.iter())
+            .filter(|(burn, answer)| {
+                sectors.contains(&burn.sector) && matches!(answer, Ok(Verdict::Sound))
+            })
+            .count();
+        let mut weak = Vec::new(rt.alloc());
+        for (burn, answer) in self.plan.iter().zip(answers.iter()) {
+            if sectors.contains(&burn.sector) && matches!(answer, Ok(Verdict::Weak)) {
+                weak.push(burn.sector)?;
+            }
         }
+        let name = run.name;
+        let first = run.first_sector;
+        let last = run.last_sector();
+        let weak = Numbers(weak.as_slice());
+        println!(rt; "  {name}, sectors {first} to {last}: {sound} sound, weak: {weak}")?;
+        Ok(())
     }
-    Ok(())
+
+    fn print_refusals(&self, rt: &HostRuntime) -> anyhow::Result<()> {
+        for (burn, answer) in self.plan.iter().zip(self.account.burnt.iter()) {
+            if let Err(fault) = answer {
+                let sector = burn.sector;
+                print!(rt; "  burning sector {sector}: ")?;
+                print_fault(rt, *fault)?;
+            }
+        }
+        Ok(())
+    }
+
+    fn print_readings(&self, rt: &HostRuntime) -> anyhow::Result<()> {
+        let mut spoiled = Vec::new(rt.alloc());
+        let mut changed = Vec::new(rt.alloc());
+        let outcomes = self.account.burnt.iter().zip(self.account.read.iter());
+        for (burn, (answer, reading)) in self.plan.iter().zip(outcomes) {
+            match (answer, reading) {
+                (Ok(_), Ok(ReadBack::Same)) => {}
+                (Ok(_), Ok(ReadBack::Spoiled)) => spoiled.push(burn.sector)?,
+                (Ok(_), _) => changed.push(burn.sector)?,
+                (Err(_), _) => {}
+            }
+        }
+        let same = count_alike(self.account.read.as_slice());
+        let bytes = same.saturating_mul(IMAGE_BYTES);
+        println!(rt; "  {same} sectors hold the bytes asked for: {bytes} bytes compared equal")?;
+        let spoiled = Numbers(spoiled.as_slice());
+        println!(rt; "  spoiled: {spoiled}")?;
+        let changed = Numbers(changed.as_slice());
+        println!(rt; "  changed: {changed}")?;
+        Ok(())
+    }
 }
 
 pub(crate) fn print_fault(rt: &HostRuntime, fault: Fault) -> io::Result<()> {
@@ -90,7 +124,7 @@ pub(crate) fn print_why_not(rt: &HostRuntime, why: WhyNot) -> io::Result<()> {
     }
 }
 
-// What a medium refuses; the other refusals come from layers that the bench test does not reach.
+// What a medium refuses, in the words of this test; the other refusals come from layers that the bench test does not reach.
 fn meaning(refusal: Refusal) -> &'static str {
     match refusal {
         Refusal::WrongMemory => "the memory has not the medium's length",
@@ -100,30 +134,6 @@ fn meaning(refusal: Refusal) -> &'static str {
         Refusal::AlreadyBurnt => "the sector is burnt",
         _ => "not a matter of the medium",
     }
-}
-
-fn print_readings(rt: &HostRuntime, plan: &[Burn], account: &Account) -> anyhow::Result<()> {
-    let mut spoiled = Vec::new(rt.alloc());
-    let mut changed = Vec::new(rt.alloc());
-    for (burn, (answer, reading)) in plan
-        .iter()
-        .zip(account.burnt.iter().zip(account.read.iter()))
-    {
-        match (answer, reading) {
-            (Ok(_), Ok(ReadBack::Same)) => {}
-            (Ok(_), Ok(ReadBack::Spoiled)) => spoiled.push(burn.sector)?,
-            (Ok(_), _) => changed.push(burn.sector)?,
-            (Err(_), _) => {}
-        }
-    }
-    let same = count_alike(account.read.as_slice());
-    let bytes = same.saturating_mul(IMAGE_BYTES);
-    println!(rt; "  {same} sectors hold the bytes asked for: {bytes} bytes compared equal")?;
-    let spoiled = Numbers(spoiled.as_slice());
-    println!(rt; "  spoiled: {spoiled}")?;
-    let changed = Numbers(changed.as_slice());
-    println!(rt; "  changed: {changed}")?;
-    Ok(())
 }
 
 pub(crate) fn print_lowest_burnt<M: Medium>(rt: &HostRuntime, medium: &M) -> io::Result<()> {

@@ -1,5 +1,5 @@
 // The lists of spares, gone through one after another.
-ghost use Rattle.std.specs.Prelude.{◌≡◌, ◌<◌};
+ghost use Rattle.std.specs.Prelude.{◌≡◌, ◌+◌, ◌<◌, length};
 ghost use Rattle.std.specs.Iterator.{YieldsFirst, item_count};
 ghost use Rattle.pointers.specs.Places.{blocks};
 ghost use Rattle.pointers.specs.Spares.{SparesListed, all_spares, spares_of};
@@ -8,7 +8,8 @@ use crate::pointers::Pointers;
 use std::marker::Model;
 use std::ops::Range;
 
-// All spares, seen as the list of those that are left.
+// All spares, seen as the list of those that are left. By their places: the secondary ones come before the groups or
+// behind them, and `spare` knows.
 #[derive(Drop)]
 pub struct Spares<'a> {
     geometry: &'a Pointers,
@@ -85,10 +86,11 @@ impl Pointers {
     }
 
     // The spares that come into question for a block, in the order in which they are tried.
-    #[tactic(auto, using(crate::proofs::Geometry::group_of_block, crate::proofs::Geometry::some_homes), unfolding(crate::specs::Spares::spares_of))]
+    #[tactic(auto, using(crate::proofs::Geometry::group_of_block, crate::proofs::Geometry::some_homes, crate::proofs::Spared::length_spares_of), unfolding(crate::specs::Spares::spares_of))]
     pub fn candidates(&self, block: u32) -> Candidates
         requires { block < blocks self.now.layout }
-        ensures { result ≡ spares_of self.now.layout block }
+        ensures list { result ≡ spares_of self.now.layout block }
+        ensures many { length result ≡ self.now.layout.spares + self.now.layout.secondary }
     {
         let group = block / self.layout.homes;
         Candidates {

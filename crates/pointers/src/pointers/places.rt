@@ -1,10 +1,12 @@
-// Where the homes of blocks lie.
+// Where the homes of blocks lie. Blocks and groups are named by numbers that who asks has counted or tested.
+// The sums are those of `Layout` again: here the rules are known, and they fit.
 ghost use Rattle.std.specs.Prelude.{◌≡◌, ◌≢◌, ◌+◌, ◌*◌, ◌^◌, ◌/◌, ◌%◌, ◌<◌, ◌≤◌};
 ghost use Rattle.pointers.specs.Places.{PlacesSound, blocks, data_start, group_start, groups_end, home, width};
 ghost use Rattle.pointers.specs.Rules.{last_track};
 
 use crate::layout::SECTORS_A_TRACK;
 use crate::pointers::Pointers;
+use crate::pointers::reading::last_track;
 
 impl Pointers {
     #[tactic(auto, unfolding(crate::specs::Places::blocks))]
@@ -18,7 +20,7 @@ impl Pointers {
     pub(crate) fn last_track(&self) -> u32
         ensures { result ≡ last_track self.now.sectors }
     {
-        self.sectors / SECTORS_A_TRACK - 1
+        last_track(self.sectors)
     }
 
     // The first sector of the data zone.

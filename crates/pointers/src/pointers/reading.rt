@@ -1,13 +1,20 @@
 // The format on a medium, by the sheet of its layout.
 ghost use Rattle.std.specs.Prelude.{◌≡◌, ◌&&◌, Ok, MatchResult};
 ghost use Rattle.pointers.specs.Reading.{SheetRead, SheetRefused, sheet_read};
-ghost use Rattle.pointers.specs.Rules.{fits_format};
+ghost use Rattle.pointers.specs.Rules.{fits_format, last_track};
 ghost use Rattle.pointers.specs.Sheets.{sheet_of};
 
 use crate::layout::{LEAST_TRACKS, Layout, SECTORS_A_TRACK};
 use crate::pointers::Pointers;
 use format::{Sheet, are_whole_tracks};
 use medium::{Fault, Layer, Refusal};
+
+// The last track of a medium of so many sectors.
+pub fn last_track(sectors: u32) -> u32
+    ensures { result ≡ last_track sectors }
+{
+    (sectors / SECTORS_A_TRACK).saturating_sub(1)
+}
 
 // Whether a medium of so many sectors fits the format: whole tracks, neither too few nor too many.
 pub fn fits_format(sectors: u32) -> bool
@@ -25,7 +32,7 @@ impl Pointers {
         if !fits_format(sectors) {
             return Err(Layer::Format.refuses(Refusal::WrongSectorCount, 0));
         }
-        let last = sectors / SECTORS_A_TRACK - 1;
+        let last = last_track(sectors);
         let layout = Layout::in_sheet(sheet);
         if !layout.stands(last, sheet) {
             return Err(Layer::Format.refuses(Refusal::BrokenLayout, 0));

@@ -7,7 +7,7 @@ ghost use Rattle.roll.specs.Wound.{roll_lawful};
 
 use crate::rolls::Roll;
 use crate::slots::{NUMBER_BYTES, WEAK, slot_at, write_slot};
-use medium::{Fault, IMAGE_BYTES, Layer, Medium, Reading, Refusal, Verdict, reach};
+use medium::{Fault, Image, Layer, Medium, Reading, Refusal, Verdict, reach};
 
 impl Roll {
     // What the sector's verdict says.
@@ -19,13 +19,13 @@ impl Roll {
     }
 
     // The image in a slot.
-    fn slot_image(&self, slot: u32) -> &[u8]
+    #[tactic(auto, using(std::proofs::lemmas::List::take_rest))]
+    fn slot_image(&self, slot: u32) -> &Image
         requires { slot < self.now.count }
-        ensures value { result.now ≡ slot_image self.now.memory.items self.now.count slot }
-        ensures long { length result.now ≡ 524 }
+        ensures { result.now ≡ slot_image self.now.memory.items self.now.count slot }
     {
         let at = slot_at(self.count, slot) + NUMBER_BYTES;
-        &self.memory[at..at + IMAGE_BYTES]
+        self.memory[at..].first_chunk().unwrap()
     }
 }
 

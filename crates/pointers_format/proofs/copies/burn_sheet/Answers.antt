@@ -1,34 +1,11 @@
 use mathlib.Core.List.{Memᴰ}
-use Rattle.std.proofs.Common.{Ok, sym, ap, ◌∙◌, subst, ap₂}
-use Rattle.format.specs.Sectors.{Apart, copy_burns, some_free}
-use Rattle.medium.specs.Runs.{after_burns}
-use Rattle.pointers.proofs.Ruled.{size_held}
-use Rattle.pointers.specs.Rules.{fits_format, last_track}
-use Rattle.pointers_format.specs.Begun.{copies_apart, copies_blank}
+use Rattle.std.proofs.Common.{sym, ap, ◌∙◌, subst}
+use Rattle.pointers.specs.Rules.{last_track}
+use Rattle.pointers_format.specs.Begun.{copies_blank}
 use Rattle.pointers_format.specs.Copies.{copies}
-use Rattle.pointers_format.specs.Initialising.{with_copies}
 use Rattle.pointers_format.proofs.copies.burn_sheet.Goals as goal
 
-pub copies-requires : goal.copies-requires
-copies-requires g c = ap fits_format c.sector_count.ensures ∙ c.args.geometry.now.sized
-
-pub burn_copies-requires : goal.burn_copies-requires
-burn_copies-requires g c =
-    let geometry = c.args.geometry.now in
-    let s = g.M.Medium.sectors c.args.medium.now in
-    let n = last_track geometry.sectors in
+pub burn_copies-requires-clause-blank : goal.burn_copies-requires-clause-blank
+burn_copies-requires-clause-blank g c =
     let at = c.copies.ensures ∙ ap (λ p. copies (last_track p)) c.sector_count.ensures in
-    record {
-      apart = subst Apart (sym at) (copies_apart n (size_held geometry).least);
-      blank = λ i m. copies_blank geometry s (sym c.requires.sized) c.requires.blank i (subst (λ ps. Memᴰ i ps) at m);
-    }
-
-pub returns : goal.returns
-unfolding with_copies
-returns g c =
-    let s = g.M.Medium.sectors c.args.medium.now in
-    let at = c.copies.ensures ∙ ap (λ p. copies (last_track p)) c.sector_count.ensures in
-    record {
-      answer = c.burn_copies.ensures.answer ∙ ap (λ ps. Ok (some_free s ps)) at;
-      after = c.burn_copies.ensures.after ∙ ap₂ (λ d ps. after_burns s (copy_burns d ps)) c.copy_image.ensures at;
-    }
+    λ i m. copies_blank c.args.geometry.now (g.M.Medium.sectors c.args.medium.now) (sym c.requires.sized) c.requires.blank i (subst (Memᴰ i) at m)

@@ -1,33 +1,14 @@
-use mathlib.Core.List.{Memᴰ}
-use Rattle.std.proofs.Common.{◌≡◌, ℕ, List, Option, take, Some, None, Err, sym, refl, ap, ◌∙◌, subst, ap₂, arith}
+use Rattle.std.proofs.Common.{◌≡◌, ℕ, List, Option, take, Some, None, sym, ap, ◌∙◌, ap₂, arith}
 use Rattle.format.specs.Sectors.{first_sound, image_at, sound_copy}
 use Rattle.medium.specs.Sectors.{Sector}
 use Rattle.std.proofs.lemmas.Grind.{common_steps}
 use Rattle.std.proofs.lemmas.Option.{none-some}
 use Rattle.std.specs.Prelude.{option_map}
-use Rattle.pointers.proofs.Ruled.{sized}
 use Rattle.pointers.specs.Reading.{sheet_read}
-use Rattle.pointers.specs.Rules.{fits_format, last_track}
-use Rattle.pointers_format.specs.Begun.{copies_inside}
-use Rattle.pointers_format.specs.Mounted.{by_first, no_size}
+use Rattle.pointers.specs.Rules.{last_track}
+use Rattle.pointers_format.specs.Mounted.{by_first}
 use Rattle.pointers_format.specs.Copies.{copies}
 use Rattle.pointers_format.proofs.copies.read_geometry.Goals as goal
-
-pub returns-then-not-fits_format : goal.returns-then-not-fits_format
-returns-then-not-fits_format g c =
-    ap Err c.refuses.ensures ∙ no_size (g.M.Medium.sectors c.args.medium.now) (ap fits_format (sym c.count-sectors.ensures) ∙ sym c.if-not-fits_format.ensures)
-
-pub find_copy-requires : goal.find_copy-requires
-find_copy-requires g c =
-    let p = c.count-sectors.result in
-    let z = sized p (sym c.if-not-fits_format.ensures) in
-    let w = z.whole in
-    let e = c.count-sectors.ensures in
-    λ i m. let k = copies_inside (last_track p) z.least i (subst (λ ps. Memᴰ i ps) c.copies.ensures m) in omega arith
-
-copy_missing : (s : List Sector) (o : Option ℕ) → option_map {U = ℕ × List ℕ} (λ i. (i, image_at s i)) o ≡ None → o ≡ None
-copy_missing s None e = refl
-copy_missing s (Some i) e = cc
 
 copy_found : (s : List Sector) (o : Option ℕ) (x : ℕ × List ℕ) → option_map {U = ℕ × List ℕ} (λ i. (i, image_at s i)) o ≡ Some x → (o ≡ Some x.0) × (image_at s x.0 ≡ x.1)
 copy_found s None x e = absurd (none-some x e)
@@ -35,25 +16,11 @@ copy_found s (Some i) x e =
     let p : (i, image_at s i) ≡ x = cc in
     (ap (λ y. Some y.0) p, ap (λ y. image_at s y.0) (sym p) ∙ ap (λ y. y.1) p)
 
-pub returns-in_default : goal.returns-in_default
-returns-in_default g c =
-    let s = g.M.Medium.sectors c.args.medium.now in
-    let p = c.count-sectors.result in
-    let was = c.in_ok-copy.was in
-    let answer = c.find_copy.ensures in
-    let at = c.in_default.is in
-    let found : sound_copy s c.copies.result ≡ None = cc in
-    let first : first_sound s (copies (last_track p)) ≡ None = ap (first_sound s) (sym c.copies.ensures) ∙ copy_missing s _ found in
-    ap Err c.refuses-in_default.ensures ∙ by_first s p c.count-sectors.ensures (sym c.if-not-fits_format.ensures) None first
-
 pub returns : goal.returns
 returns g c =
     let s = g.M.Medium.sectors c.args.medium.now in
     let p = c.count-sectors.result in
-    let was = c.in_ok-copy.was in
-    let answer = c.find_copy.ensures in
-    let at = c.in-Some.is in
-    let found : sound_copy s c.copies.result ≡ Some c.in-Some.copy = cc in
+    let found : sound_copy s c.copies.result ≡ Some c.in-Some.copy = cc (c.in_ok-copy.was, c.find_copy.ensures, c.in-Some.is) in
     let h = copy_found s _ _ found in
     let first : first_sound s (copies (last_track p)) ≡ Some c.in-Some.copy.0 = ap (first_sound s) (sym c.copies.ensures) ∙ h.0 in
     let chunk = c.first_chunk.ensures in

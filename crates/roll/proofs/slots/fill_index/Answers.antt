@@ -1,5 +1,5 @@
 use Rattle.std.proofs.Common.{◌≡◌, sym, ap, ◌∙◌, subst, arith}
-use Rattle.roll.specs.Slotted.{broken_number, broken_order, broken_twice, filled_none, filled_unused, filled_used}
+use Rattle.roll.specs.Slotted.{broken_number, broken_order, broken_index, filled_none, filled_unused, filled_used}
 use Rattle.medium.specs.Bytes.{four_at}
 use Rattle.roll.specs.Slots.{Filled, slot_number}
 use Rattle.roll.proofs.slots.fill_index.Goals as goal
@@ -25,7 +25,7 @@ returns-then-number-count c = λ f.
       | then-number-count-via-then-number-count w ↦ broken_number xs p n f.1.0 c.loop-slot-test.true used f.1.1 (omega (arith, w.if-number-count.true))
       | then-number-count-via-else-number-count+then-used-slot w ↦ broken_order xs p n f.1.0 c.loop-slot-test.true used f.1.1 c.loop-slot.used c.requires.1 c.loop-slot.invariant.slots w.if-used-slot.true
       | then-number-count-via-else-number-count+else-used-slot+then-is_some w ↦
-          broken_twice xs p n f.1.0 c.loop-slot-test.true used f.1.1 c.four_at-number.result c.loop-slot.index c.loop-slot.invariant.indexed e w.if-number-count.false w.if-is_some.ensures
+          broken_index xs p n f.1.0 c.loop-slot-test.true used f.1.1 c.four_at-number.result c.loop-slot.index c.loop-slot.invariant.indexed e w.if-number-count.false w.if-is_some.ensures
     ]
 
 pub loop-slot-preserved : goal.loop-slot-preserved

@@ -1,6 +1,6 @@
 use Rattle.std.proofs.Common.{◌++◌, replicate, ap, ◌∙◌}
 use borrow.Rule.Slice.PartMut.{put_mid}
-use Rattle.station.specs.Shots.{four_bytes}
+use Rattle.medium.specs.Bytes.{four_bytes}
 use Rattle.station.proofs.evening.shot_image.Goals as goal
 
 pub returns : goal.returns

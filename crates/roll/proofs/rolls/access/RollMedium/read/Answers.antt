@@ -18,4 +18,4 @@ slot_image-requires c = slot_within c.args.self.now c.args.sector c.args.image.n
 pub returns : goal.returns
 returns c =
     let r = read_as c.args.self.now c.args.sector c.args.image.now c.in_ok-reach.ensures _ c.index.ensures false c.if-is_weak.ensures (Some c.in-Some.slot) c.in-Some.is in
-    record { answer = r.0; image = c.copy_from_slice.ensures.after ∙ c.slot_image.ensures.value ∙ r.1 }
+    record { answer = r.0; image = c.copy_from_slice.ensures.after ∙ c.slot_image.ensures ∙ r.1 }

@@ -1,7 +1,0 @@
-use Rattle.std.proofs.Common.{refl}
-use Rattle.pointers_format.specs.Copies.{copies}
-use Rattle.pointers_format.proofs.copies.copies.Goals as goal
-
-pub returns : goal.returns
-unfolding copies
-returns c = refl
