@@ -1,5 +1,6 @@
 // Format A: which layouts are read, and where their blocks lie.
-use pointers::Pointers;
+use format::Sheet;
+use pointers::{Pointers, SHEET_BYTES};
 use std::test::Fail;
 
 // In place of the first track of a secondary area: there is none.
@@ -26,7 +27,7 @@ const SMALLEST: Numbers = Numbers {
     secondary: 0,
 };
 
-// A small cartridge: ten tracks, two groups, a track of secondary spares behind them.
+// A small cartridge: ten tracks, two groups, a track of secondary spares behind them. Tests have examples of their own.
 const EXAMPLE: Numbers = Numbers {
     first_data_track: 3,
     groups: 2,
@@ -38,8 +39,8 @@ const EXAMPLE: Numbers = Numbers {
 
 const EXAMPLE_SECTORS: u32 = 310;
 
-fn sheet(numbers: Numbers) -> [u8; 512] {
-    let mut sheet = [0xFFu8; 512];
+fn sheet(numbers: Numbers) -> Sheet {
+    let mut sheet = [0xFFu8; SHEET_BYTES];
     sheet[0..4].copy_from_slice(&[0x0A, 0x0A, numbers.first_data_track, 0x10]);
     sheet[4..6].copy_from_slice(&numbers.groups.to_be_bytes());
     sheet[6..10].copy_from_slice(&numbers.homes.to_be_bytes());
@@ -50,16 +51,16 @@ fn sheet(numbers: Numbers) -> [u8; 512] {
 }
 
 // The example's sheet with another byte at a place.
-fn example_with(at: usize, byte: u8) -> [u8; 512] {
+fn example_with(at: usize, byte: u8) -> Sheet {
     let mut sheet = sheet(EXAMPLE);
-    if at < 512 {
+    if at < SHEET_BYTES {
         sheet[at] = byte;
     }
     sheet
 }
 
 // The number of the refusal that a sheet gets on a medium of so many sectors, or 0: the tests compare numbers alone.
-fn refusal_for(sectors: u32, sheet: [u8; 512]) -> u8 {
+fn refusal_for(sectors: u32, sheet: Sheet) -> u8 {
     match Pointers::read(sectors, &sheet) {
         Ok(_) => 0,
         Err(fault) => u8::from(fault.refusal),
@@ -125,7 +126,7 @@ fn spares(rt: HostRuntime) {
     );
 }
 
-fn example_at(start: u32, first_data_track: u8) -> [u8; 512] {
+fn example_at(start: u32, first_data_track: u8) -> Sheet {
     sheet(Numbers {
         first_data_track,
         start,

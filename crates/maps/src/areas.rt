@@ -4,7 +4,8 @@ ghost use Rattle.maps.specs.Areas.{area_of, begun, begun_in};
 
 use crate::bands::{AREA_SECTORS, Band, Purpose, SECTORS_PER_TRACK};
 
-// An area from its first track to its last. Bands are counted from 1.
+// An area from its first track to its last. Bands are counted from 1. Areas by pointers lie between two sectors and belong to
+// no band, so each format has a type of its own.
 #[derive(Clone, Copy, PartialEq, Eq, Debug)]
 pub struct Area {
     pub first: u32,

@@ -30,7 +30,8 @@ pub(crate) fn is_identified(sheet: &Sheet) -> bool
     sheet.starts_with(&IDENTIFIER)
 }
 
-// The first sector of a track. A track that no medium has begins behind the last sector of any.
+// The first sector of a track. A track that no medium has begins behind the last sector of any, and its area is refused as one
+// that leaves the medium: an Option would be a second way of saying so.
 fn first_sector(track: u16) -> u32
     ensures { result ≡ first_sector track }
 {

@@ -1,4 +1,5 @@
 // Format A on a plate: what is refused, where, and what that leaves.
+use format::{BLOCK_BYTES, Sheet};
 use medium::{Fault, IMAGE_BYTES, Medium, lowest_burnt};
 use plate::{CELL_BYTES, Flaw, Plate};
 use pointers_format::FormatA;
@@ -9,8 +10,8 @@ use std::test::Fail;
 const EXAMPLE_SECTORS: u32 = 310;
 
 // Two groups of 40 homes and 5 spares, and a track of secondary spares behind them. Tests have examples of their own.
-fn example() -> [u8; 512] {
-    let mut sheet = [0xFF; 512];
+fn example() -> Sheet {
+    let mut sheet = [0xFF; BLOCK_BYTES];
     sheet[0..14].copy_from_slice(&[0x0A, 0x0A, 3, 0x10, 0, 2, 0, 0, 0, 40, 0, 0, 0, 5]);
     sheet[30..38].copy_from_slice(&[0, 0, 0, 6, 0, 0, 0, 31]);
     sheet

@@ -6,7 +6,7 @@ use Rattle.medium.specs.Faults.{medium_fault}
 use Rattle.medium.specs.Sectors.{Sector, is_blank, sector_at}
 use Rattle.medium.specs.declared.faults.Refusal.TheVariants.{AlreadyBurnt}
 use Rattle.roll.specs.Slotted.{Told, told}
-use Rattle.roll.specs.Wound.{filled_burnt, length_with_slot, roll_at, roll_burnt, room_left, verdicts_kept}
+use Rattle.roll.specs.Wound.{filled_burnt, length_with_slot, no_slot, roll_at, roll_burnt, room_left, verdicts_kept}
 use Rattle.roll.specs.Access.{sectors_of}
 use Rattle.roll.specs.Rolls.{roll_sectors}
 use Rattle.roll.specs.Slots.{Filled, Verdicts, held, slot_of, verdict_at, with_slot}
@@ -77,7 +77,10 @@ module _ (m : Roll) (i : ℕ) (image : List ℕ) where
       free_here = free_now ∙ ap is_some here
 
       room : u < p
-      room = room_left xs p u i index image m.few m.sized m.filled inside free_here whole
+      room = room_left xs p u i index m.filled inside free_here
+
+      none : slot_of xs p p i ≡ None
+      none = no_slot xs p u i index m.filled inside free_here
 
       -- the memory once it was lent and the slot written
       module _ (ws ys : List ℕ) (at : ℕ) (lent : ys ≡ xs) (begins : at ≡ p + 528 * u) (written : ws ≡ with_slot ys at i image) where
@@ -100,9 +103,9 @@ module _ (m : Roll) (i : ℕ) (image : List ℕ) where
         kept =
             subst Kept (sym stored) (
               sized_new ∙ m.sized,
-              verdicts_kept xs p u i index image m.few m.sized m.filled inside free_here whole m.judged,
-              filled_burnt xs p u i index image m.few m.sized m.filled inside free_here whole,
+              verdicts_kept xs p u i image m.few m.sized m.filled.slots room inside none whole m.judged,
+              filled_burnt xs p u i index m.filled inside free_here image m.few m.sized whole,
             )
 
         pub burnt_as : roll_sectors (vec_items v) p ≡ with_burnt s i image
-        burnt_as = ap (λ zs. roll_sectors zs p) stored ∙ roll_burnt xs p u i index image m.few m.sized m.filled inside free_here whole
+        burnt_as = ap (λ zs. roll_sectors zs p) stored ∙ roll_burnt xs p u i image m.few m.sized m.filled.slots room inside none whole

@@ -53,12 +53,15 @@ module _ (xs : List ℕ) (p : ℕ) where
   pub unused_more : (n u : ℕ) → UsedSlots xs p n u → slot_number xs p n ≡ 4294967295 → UsedSlots xs p (n + 1) u
   unused_more n u s e = (omega (arith, s.0), s.1, s.2, λ k l m. grind arith)
 
+  pub unused_index : (n : ℕ) (index : List (Option ℕ)) → p ≤ 640064 → slot_number xs p n ≡ 4294967295 → Indexed xs p n index → Indexed xs p (n + 1) index
+  unused_index n index few e h i l = grind (arith, slot_step, h i l)
+
   pub filled_unused : (n u : ℕ) (index : List (Option ℕ)) → p ≤ 640064 → slot_number xs p n ≡ 4294967295 → Filled xs p n index u → Filled xs p (n + 1) index u
   filled_unused n u index few e f =
       record {
         slots = unused_more n u f.slots e;
         long = f.long;
-        indexed = λ i l. grind (arith, slot_step, f.indexed i l);
+        indexed = unused_index n index few e f.indexed;
         room = f.room;
       }
 
@@ -72,13 +75,16 @@ module _ (xs : List ℕ) (p : ℕ) where
         λ k a b. absurd (omega arith),
       )
 
+  pub used_index : (n m : ℕ) (index : List (Option ℕ)) → length index ≡ p → m ≡ slot_number xs p n → m < p → Indexed xs p n index → Indexed xs p (n + 1) (slice_set index m (Some n))
+  used_index n m index long e l h i q = grind (arith, common_steps, slot_step, h i q, long)
+
   module _ (n u m : ℕ) (index : List (Option ℕ)) (first : u ≡ n) (f : Filled xs p n index u) (number : m ≡ slot_number xs p n) (within : m < p) (free_now : false ≡ is_some (slice_index_or index m None)) where
     pub filled_used : Filled xs p (n + 1) (slice_set index m (Some n)) (u + 1)
     filled_used =
         record {
           slots = used_more n u m first f.slots number within (sym (f.indexed m within) ∙ none_held _ free_now);
           long = length-set index m (Some n) ∙ f.long;
-          indexed = λ i q. grind (arith, common_steps, slot_step, f.indexed i q, f.long);
+          indexed = used_index n m index f.long number within f.indexed;
           room = omega (arith, free_set index m n (omega (arith, f.long)) (none_held _ free_now), f.room);
         }
 
@@ -97,6 +103,9 @@ module _ (xs : List ℕ) (p : ℕ) where
     pub broken_index : (m : ℕ) (index : List (Option ℕ)) → Indexed xs p n index → m ≡ slot_number xs p n → m < p → true ≡ is_some (slice_index_or index m None) → ⊥
     broken_index m index h e l some = let t = told n m in let d = h m l in grind arith
 
+pub free_all : (n : ℕ) → free (replicate n None) ≡ n
+free_all n = omega (arith, sum_by-replicate (λ (o : Option ℕ). cond (is_none o) 1 0) n None)
+
 pub filled_none : (xs : List ℕ) (p : ℕ) → Filled xs p 0 (replicate p None) 0
 unfolding slot_of
 filled_none xs p =
@@ -104,5 +113,5 @@ filled_none xs p =
       slots = (omega arith, (λ k h. absurd (omega arith)), (λ j k h. absurd (omega (arith, h.0))), (λ k a b. absurd (omega arith)));
       long = length-replicate p None;
       indexed = λ i l. get_or-replicate p i None None l;
-      room = omega (arith, sum_by-replicate (λ (o : Option ℕ). cond (is_none o) 1 0) p None);
+      room = omega (arith, free_all p);
     }

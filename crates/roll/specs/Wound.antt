@@ -61,24 +61,12 @@ pub one_slot : (xs : List ℕ) (p u i : ℕ) → p ≤ 640064 → i < p → Used
 one_slot xs p u i few l s j k a b d e = grind arith
 
 -- sector i, which had no slot, is burnt into slot u, the first that is not used
-module _ (xs : List ℕ) (p u i : ℕ) (index : List (Option ℕ)) (image : List ℕ) (few : p ≤ 640064) (sized : length xs ≡ 529 * p) (filled : Filled xs p p index u) (within : i < p) (free_now : false ≡ is_some (slice_index_or index i None)) (whole : length image ≡ 524) where
-  none : slot_of xs p p i ≡ None
-  none = sym (filled.indexed i within) ∙ none_held _ free_now
-
-  slots : UsedSlots xs p p u
-  slots = filled.slots
-
-  one_less : free (slice_set index i (Some u)) + 1 ≡ free index
-  one_less = free_set index i u (omega (arith, filled.long)) (none_held _ free_now)
-
-  pub room_left : u < p
-  room_left = omega (arith, one_less, filled.room)
-
+module _ (xs : List ℕ) (p u i : ℕ) (image : List ℕ) (few : p ≤ 640064) (sized : length xs ≡ 529 * p) (slots : UsedSlots xs p p u) (room : u < p) (within : i < p) (none : slot_of xs p p i ≡ None) (whole : length image ≡ 524) where
   abbrev ys : List ℕ
   ys = with_slot xs (p + 528 * u) i image
 
   fits : p + 528 * u + 528 ≤ length xs
-  fits = omega (arith, room_left)
+  fits = omega arith
 
   pub verdict_kept : (k : ℕ) → k < p → slice_index ys k ≡ slice_index xs k
   verdict_kept k h = before_slot xs (p + 528 * u) i image fits whole k 0 (omega arith)
@@ -112,7 +100,7 @@ module _ (xs : List ℕ) (p u i : ℕ) (index : List (Option ℕ)) (image : List
   pub slots_kept : UsedSlots ys p p (u + 1)
   slots_kept =
       let s = slots in
-      let l = room_left in
+      let l = room in
       let e = new_number in (
         omega arith,
         (λ k l. grind (arith, other_number)),
@@ -121,11 +109,11 @@ module _ (xs : List ℕ) (p u i : ℕ) (index : List (Option ℕ)) (image : List
       )
 
   pub new_slot : slot_of ys p p i ≡ Some u
-  new_slot = slot_is ys p p i (Some u) (one_slot ys p (u + 1) i few within slots_kept) (room_left, new_number)
+  new_slot = slot_is ys p p i (Some u) (one_slot ys p (u + 1) i few within slots_kept) (room, new_number)
 
   -- the slot of another sector is not the one that was written
   not_new : (j k : ℕ) → j < p → slot_number xs p k ≡ j → k ≢ u
-  not_new j k l e f = let s = slots in let h = room_left in grind arith
+  not_new j k l e f = let s = slots in let h = room in grind arith
 
   told_kept : (j : ℕ) → j < p → (j ≢ i) → (o : Option ℕ) → Told xs p p j o → Told ys p p j o
   told_kept j l ne None h = λ k q e. let a = other_number k in let b = new_number in grind arith
@@ -138,17 +126,8 @@ module _ (xs : List ℕ) (p u i : ℕ) (index : List (Option ℕ)) (image : List
   held_kept j l None h = refl
   held_kept j l (Some k) h = ap burnt (other_image k (not_new j k l h.1))
 
-  pub index_kept : Indexed ys p p (slice_set index i (Some u))
-  index_kept j l = let e = new_slot in grind (arith, common_steps, filled.indexed j l, filled.long, other_slot j l)
-
-  pub filled_burnt : Filled ys p p (slice_set index i (Some u)) (u + 1)
-  filled_burnt =
-      record {
-        slots = slots_kept;
-        long = length-set index i (Some u) ∙ filled.long;
-        indexed = index_kept;
-        room = omega (arith, one_less, filled.room);
-      }
+  pub index_kept : (index : List (Option ℕ)) → length index ≡ p → Indexed xs p p index → Indexed ys p p (slice_set index i (Some u))
+  index_kept index long h j l = let e = new_slot in grind (arith, common_steps, h j l, long, other_slot j l)
 
   pub roll_burnt : roll_sectors ys p ≡ with_burnt (roll_sectors xs p) i image
   roll_burnt =
@@ -168,6 +147,26 @@ module _ (xs : List ℕ) (p u i : ℕ) (index : List (Option ℕ)) (image : List
 
   pub verdicts_kept : Verdicts xs p → Verdicts ys p
   verdicts_kept h k l = omega (arith, verdict_kept k l, h k l)
+
+-- the same, as the index tells it
+module _ (xs : List ℕ) (p u i : ℕ) (index : List (Option ℕ)) (filled : Filled xs p p index u) (within : i < p) (free_now : false ≡ is_some (slice_index_or index i None)) where
+  pub no_slot : slot_of xs p p i ≡ None
+  no_slot = sym (filled.indexed i within) ∙ none_held _ free_now
+
+  one_less : free (slice_set index i (Some u)) + 1 ≡ free index
+  one_less = free_set index i u (omega (arith, filled.long)) (none_held _ free_now)
+
+  pub room_left : u < p
+  room_left = omega (arith, one_less, filled.room)
+
+  pub filled_burnt : (image : List ℕ) → p ≤ 640064 → length xs ≡ 529 * p → length image ≡ 524 → Filled (with_slot xs (p + 528 * u) i image) p p (slice_set index i (Some u)) (u + 1)
+  filled_burnt image few sized whole =
+      record {
+        slots = slots_kept xs p u i image few sized filled.slots room_left within no_slot whole;
+        long = length-set index i (Some u) ∙ filled.long;
+        indexed = index_kept xs p u i image few sized filled.slots room_left within no_slot whole index filled.long filled.indexed;
+        room = omega (arith, one_less, filled.room);
+      }
 
 module _ (xs : List ℕ) (p : ℕ) where
   pub length_roll : length (roll_sectors xs p) ≡ p
