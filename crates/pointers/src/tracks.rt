@@ -20,7 +20,7 @@ impl Addressing for Pointers {
     ghost near = { near_zero (pos 0) refl };
 }
 
-// The first sector of a track. No format has a track behind the 19,999th, so a layout is tried on a medium that has none.
+// The first sector of a track. No medium has one behind track 19,999.
 pub(crate) fn start_of(track: u32) -> u32
     requires { track ≤ 19999 }
     ensures { result ≡ 31 * track }
