@@ -74,9 +74,9 @@ module _ (n : ℕ) (l : Layout) (r : LayoutRules n l) where
       joined_append 0 (data_start l) end (areas_before l) (areas_of_groups l l.groups ++ areas_behind n l) before (joined_append (data_start l) (groups_end l) end (areas_of_groups l l.groups) (areas_behind n l) (joined_groups l l.groups) behind)
 
 -- the areas by their borders
-abbrev pub areas_by : Layout → ℕ → ℕ → ℕ → ℕ → ℕ → List Area
-areas_by l zone groups zone_end copies end =
-    (area Copies 0 93 ++ area Secondary 93 zone) ++ (areas_of_groups l l.groups ++ (area Unused groups zone_end ++ (area Secondary zone_end copies ++ area Copies copies end)))
+abbrev pub areas_by : Layout → ℕ → ℕ → ℕ → ℕ → ℕ → ℕ → List Area
+areas_by l front zone groups zone_end copies end =
+    (area Copies 0 front ++ area Secondary front zone) ++ (areas_of_groups l l.groups ++ (area Unused groups zone_end ++ (area Secondary zone_end copies ++ area Copies copies end)))
 
 -- six lists, each added to those before it
 pub added : (xs x1 x2 x3 x4 x5 x6 a1 a2 a3 a4 a5 a6 : List Area) → xs ≡ [] → x1 ≡ xs ++ a1 → x2 ≡ x1 ++ a2 → x3 ≡ x2 ++ a3 → x4 ≡ x3 ++ a4 → x5 ≡ x4 ++ a5 → x6 ≡ x5 ++ a6 → x6 ≡ (a1 ++ a2) ++ (a3 ++ (a4 ++ (a5 ++ a6)))

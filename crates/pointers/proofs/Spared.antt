@@ -90,6 +90,18 @@ module _ (l : Layout) where
       let g = group_place i h in
       ap (λ x. get_or (group_spares l l.groups) x 0) (sym (div-add-mod' i l.spares)) ∙ get_or_groups l.groups (i / l.spares) (i % l.spares) g.0 g.1 ∙ get_or_primaries (i / l.spares) (i % l.spares) g.1
 
+  -- the spares of a block: of its group first
+  pub get_or_own : (b i : ℕ) → i < l.spares → get_or (spares_of l b) i 0 ≡ data_start l + (b / l.homes * width l + l.homes) + i
+  unfolding spares_of
+  get_or_own b i h =
+      let s : i < length (primaries l (b / l.homes)) = omega (arith, length_primaries (b / l.homes)) in
+      get_or_append_left (primaries l (b / l.homes)) (secondaries l) 0 i s ∙ get_or_primaries (b / l.homes) i h
+
+  pub get_or_shared : (b i : ℕ) → l.spares ≤ i → i < l.spares + l.secondary → get_or (spares_of l b) i 0 ≡ 31 * l.start + (i - l.spares)
+  unfolding spares_of
+  get_or_shared b i h s =
+      get_or-append_right (primaries l (b / l.homes)) (secondaries l) l.spares i 0 (length_primaries (b / l.homes)) h ∙ get_or_secondaries (i - l.spares) (omega arith)
+
   -- all spares, the secondary ones in front or behind
   pub get_or_front_secondary : (i : ℕ) → l.start ≡ 3 → i < l.secondary → get_or (all_spares l) i 0 ≡ 31 * l.start + i
   get_or_front_secondary i e h =

@@ -1,5 +1,5 @@
 // The rules that a layout keeps.
-ghost use Rattle.std.specs.Prelude.{◌≡◌, ◌*◌, ◌^◌, ◌<◌};
+ghost use Rattle.std.specs.Prelude.{◌≡◌, ◌≤◌, true};
 ghost use Rattle.pointers.specs.Places.{data_start, first_track, groups_end};
 ghost use Rattle.pointers.specs.Rules.{counts_valid, groups_valid, layout_valid, secondary_valid};
 
@@ -7,13 +7,7 @@ use crate::layout::{
     COPIES_BEFORE_LAST, FIRST_FREE_TRACK, Layout, MOST_GROUPS, MOST_SPARES, NO_TRACK,
     SECTORS_A_TRACK,
 };
-
-// The first sector of a track, on however large a medium.
-fn start_of(track: u32) -> u128
-    ensures { result ≡ 31 * track }
-{
-    u128::from(SECTORS_A_TRACK) * u128::from(track)
-}
+use crate::tracks::start_of;
 
 impl Layout {
     // The first track of the data zone: behind the secondary area, where that comes first.
@@ -52,35 +46,38 @@ impl Layout {
 
     // The first sector of the data zone.
     #[tactic(auto, unfolding(crate::specs::Places::data_start))]
-    pub(crate) fn data_start(&self) -> u128
-        ensures value { result ≡ data_start self.now }
-        ensures low { result < 2 ^ 37 }
+    pub(crate) fn data_start(&self) -> u32
+        requires { self.now.secondary ≤ 1024 }
+        ensures { result ≡ data_start self.now }
     {
         start_of(self.first_track())
     }
 
     // The first sector behind the groups.
-    pub(crate) fn groups_end(&self) -> u128
+    pub(crate) fn groups_end(&self) -> u64
+        requires { (self.now.groups ≤ 65535) × (self.now.secondary ≤ 1024) }
         ensures { result ≡ groups_end self.now }
     {
-        let width = u128::from(self.homes) + u128::from(self.spares);
-        self.data_start() + u128::from(self.groups) * width
+        let width = u64::from(self.homes) + u64::from(self.spares);
+        u64::from(self.data_start()) + u64::from(self.groups) * width
     }
 
     // Whether the groups end before the last copies of the layout, and before a secondary area behind them.
     fn are_groups_valid(&self, last: u32) -> bool
+        requires { (last ≤ 19999) × ((counts_valid self.now ≡ true) × (secondary_valid last self.now ≡ true)) }
         ensures { result ≡ groups_valid last self.now }
     {
         let end = self.groups_end();
-        end <= start_of(last.saturating_sub(COPIES_BEFORE_LAST))
+        end <= u64::from(start_of(last.saturating_sub(COPIES_BEFORE_LAST)))
             && (self.secondary == 0
                 || self.start == FIRST_FREE_TRACK
-                || end <= start_of(self.start))
+                || end <= u64::from(start_of(self.start)))
     }
 
     // Whether the layout keeps every rule on a medium with this last track.
     #[tactic(auto, unfolding(crate::specs::Rules::layout_valid))]
     pub(crate) fn is_valid(&self, last: u32) -> bool
+        requires { last ≤ 19999 }
         ensures { result ≡ layout_valid last self.now }
     {
         self.are_counts_valid() && self.is_secondary_valid(last) && self.are_groups_valid(last)

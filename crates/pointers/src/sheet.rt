@@ -64,6 +64,7 @@ impl Layout {
 
     // Whether the layout, which the sheet gave, keeps the rules, and the bytes around it are as in every sheet.
     pub(crate) fn stands(&self, last: u32, sheet: &Sheet) -> bool
+        requires { last ≤ 19999 }
         ensures { result ≡ (layout_valid last self.now && marked (first_track self.now) sheet.now) }
     {
         self.is_valid(last) && is_marked(sheet, self.first_track() as u8)

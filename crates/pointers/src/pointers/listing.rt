@@ -4,8 +4,9 @@ ghost use Rattle.pointers.specs.Areas.{Listed, area, areas_of_groups, group_area
 ghost use Rattle.pointers.specs.Rules.{last_track};
 
 use crate::areas::{Area, Purpose};
-use crate::layout::{COPIES_BEFORE_LAST, FIRST_FREE_TRACK, SECTORS_A_TRACK};
+use crate::layout::{COPIES_BEFORE_LAST, FIRST_FREE_TRACK};
 use crate::pointers::Pointers;
+use crate::tracks::start_of;
 use std::alloc::{AllocError, Global};
 
 // Adds the area of the sectors from `first` up to `end`, if there are any.
@@ -27,7 +28,7 @@ impl Pointers {
     fn copies_start(&self) -> u32
         ensures { result ≡ 31 * (last_track self.now.sectors - 2) }
     {
-        SECTORS_A_TRACK * (self.last_track() - COPIES_BEFORE_LAST)
+        start_of(self.last_track() - COPIES_BEFORE_LAST)
     }
 
     // The end of the data zone: a secondary area behind it, or the last copies of the layout.
@@ -70,7 +71,7 @@ impl Pointers {
     pub fn areas(&self, heap: Global) -> Result<Vec<Area>, AllocError>
         ensures { IfOk result (λ v. Listed (last_track self.now.sectors) self.now.layout v.items) }
     {
-        let front = SECTORS_A_TRACK * FIRST_FREE_TRACK;
+        let front = start_of(FIRST_FREE_TRACK);
         let copies = self.copies_start();
         let zone_end = self.zone_end();
         let mut areas = Vec::new(heap);

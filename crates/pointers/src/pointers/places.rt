@@ -4,9 +4,9 @@ ghost use Rattle.std.specs.Prelude.{◌≡◌, ◌≢◌, ◌+◌, ◌*◌, ◌^
 ghost use Rattle.pointers.specs.Places.{PlacesSound, blocks, data_start, group_start, groups_end, home, width};
 ghost use Rattle.pointers.specs.Rules.{last_track};
 
-use crate::layout::SECTORS_A_TRACK;
 use crate::pointers::Pointers;
 use crate::pointers::reading::last_track;
+use crate::tracks::start_of;
 
 impl Pointers {
     #[tactic(auto, unfolding(crate::specs::Places::blocks))]
@@ -24,11 +24,10 @@ impl Pointers {
     }
 
     // The first sector of the data zone.
-    #[tactic(auto, using(crate::proofs::Geometry::room_of_zone))]
     pub(crate) fn data_start(&self) -> u32
         ensures { result ≡ data_start self.now.layout }
     {
-        self.layout.data_start() as u32
+        self.layout.data_start()
     }
 
     // How many sectors a group takes.
@@ -62,7 +61,7 @@ impl Pointers {
         ensures value { result ≡ 31 * self.now.layout.start }
         ensures low { result + self.now.layout.secondary < 2 ^ 20 }
     {
-        SECTORS_A_TRACK * self.layout.start
+        start_of(self.layout.start)
     }
 
     // The sector in which a block comes to lie, if that is sound.

@@ -73,8 +73,9 @@ impl Pointers {
         self.layout.groups * self.layout.spares
     }
 
+    // How many spares there are.
     #[tactic(auto, using(crate::proofs::Spared::length_all_spares))]
-    pub(crate) fn spare_count(&self) -> u32
+    pub fn spare_count(&self) -> u32
         ensures count { result ≡ length (all_spares self.now.layout) }
         ensures listed { SparesListed self.now.layout }
     {
@@ -83,7 +84,7 @@ impl Pointers {
 
     // A spare by its place among all of them.
     #[tactic(auto, using(crate::proofs::Spared::length_all_spares, crate::proofs::Spared::get_or_front_secondary, crate::proofs::Spared::get_or_front_group, crate::proofs::Spared::get_or_behind_group, crate::proofs::Spared::get_or_behind_secondary,))]
-    pub(crate) fn spare(&self, index: u32) -> u32
+    pub fn spare(&self, index: u32) -> u32
         requires { index < length (all_spares self.now.layout) }
         ensures { result ≡ slice_index (all_spares self.now.layout) index }
     {
@@ -99,6 +100,26 @@ impl Pointers {
             return self.group_spare(index);
         }
         self.secondary(index - primary)
+    }
+
+    // How many spares come into question for a block.
+    pub fn candidate_count(&self) -> u32
+        ensures { result ≡ self.now.layout.spares + self.now.layout.secondary }
+    {
+        self.layout.spares + self.layout.secondary
+    }
+
+    // The spare that is tried for a block after so many others: those of its group come first.
+    #[tactic(auto, using(crate::proofs::Geometry::group_of_block, crate::proofs::Geometry::some_homes, crate::proofs::Spared::get_or_own, crate::proofs::Spared::get_or_shared))]
+    pub fn candidate(&self, block: u32, index: u32) -> u32
+        requires { (block < blocks self.now.layout) × (index < self.now.layout.spares + self.now.layout.secondary) }
+        ensures { result ≡ slice_index (spares_of self.now.layout block) index }
+    {
+        let spares = self.layout.spares;
+        if index < spares {
+            return self.primary(block / self.layout.homes, index);
+        }
+        self.secondary(index - spares)
     }
 
     #[tactic(auto, unfolding(crate::specs::Spares::is_home))]

@@ -3,8 +3,8 @@ use Rattle.pointers.proofs.Listing.{start_held}
 use Rattle.pointers.proofs.Ruled.{rules_held}
 use Rattle.pointers.proofs.pointers.Pointers.secondary_start.Goals as goal
 
-pub overflow_mul-result : goal.overflow_mul-result
-overflow_mul-result c = let h = start_held c.args.self.now c.requires in omega arith
+pub start_of-requires : goal.start_of-requires
+start_of-requires c = start_held c.args.self.now c.requires
 
 pub returns-clause-low : goal.returns-clause-low
 returns-clause-low c =
