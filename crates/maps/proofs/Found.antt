@@ -9,7 +9,7 @@ use Rattle.maps.specs.declared.bands.Band.{Band}
 use Rattle.maps.specs.declared.bands.Layout.{Layout}
 use Rattle.maps.specs.declared.bands.Purpose.{Purpose}
 use Rattle.maps.specs.declared.bands.Purpose.TheVariants.{Prime}
-use Rattle.std.proofs.lemmas.List.{get_or-take}
+use Rattle.std.proofs.lemmas.List.{at_drop_all, drop_more, get_or-take, length-take}
 use Rattle.std.proofs.lemmas.Bool.{both_ways, cases_lt, cases_order, leb-true, ltb-true, or_cases}
 
 -- the home of a block of the first band, and of a block of a later one
@@ -129,6 +129,35 @@ module _ (end : ℕ) where
 pub record Finding (bs : List Band) (b i rest : ℕ) : Type 0 where
   pub same : home_in (drop i bs) rest ≡ home_in bs b
   pub less : rest < block_count (drop i bs)
+
+-- while a block is left at place i of the eight, that place is in use
+pub finding_used : (l : Layout) (b i rest : ℕ) → Finding (bands_of l) b i rest → (i < length (bands_of l)) × (get_or (bands_of l) i no_band ≡ band_of l i)
+finding_used l b i rest g =
+    let less = g.less in
+    let more : i < length (bands_of l) =
+    ⊎_elim
+    (λ (h : i < length (bands_of l)). h)
+    (λ (h : length (bands_of l) ≤ i). let none : block_count (drop i (bands_of l)) ≡ 0 = at_drop_all block_count (bands_of l) i h in absurd (omega arith))
+    (cases_lt i (length (bands_of l))) in
+    (more, get_or-take l.count l.bands i no_band (omega (arith, length-take l.count l.bands)))
+
+finding_split : (l : Layout) (b i rest : ℕ) → Finding (bands_of l) b i rest → drop i (bands_of l) ≡ band_of l i ∷ drop (i + 1) (bands_of l)
+finding_split l b i rest g =
+    let u = finding_used l b i rest g in
+    drop_more (bands_of l) i no_band u.0 ∙ ap (λ x. x ∷ drop (i + 1) (bands_of l)) u.1
+
+-- the home of the block, if it is one of that place, and the next place, if it is none
+pub finding_in : (l : Layout) (b i rest : ℕ) → Finding (bands_of l) b i rest → rest < homes_of (band_of l i) → first_home (band_of l i) + rest ≡ home l b
+finding_in l b i rest g h =
+    sym (home_here (band_of l i) (drop (i + 1) (bands_of l)) rest h) ∙ sym (ap (λ k. home_in k rest) (finding_split l b i rest g)) ∙ g.same
+
+pub finding_on : (l : Layout) (b i rest r : ℕ) → Finding (bands_of l) b i rest → rest ≡ homes_of (band_of l i) + r → Finding (bands_of l) b (i + 1) r
+finding_on l b i rest r g h =
+    let xs = drop (i + 1) (bands_of l) in
+    let e = finding_split l b i rest g in
+    let left : rest - homes_of (band_of l i) ≡ r = omega arith in
+    let all : rest < homes_of (band_of l i) + block_count xs = subst (λ k. rest < block_count k) e g.less in
+    record { same = sym (home_later (band_of l i) xs rest (omega arith) ∙ ap (home_in xs) left) ∙ sym (ap (λ k. home_in k rest) e) ∙ g.same; less = omega arith }
 
 pub last_low : (l : Layout) → valid l ≡ true → 8 ≤ l.last
 last_low l kept = grind (arith, common_steps)

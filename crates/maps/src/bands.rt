@@ -1,7 +1,7 @@
 // How a medium is divided: bands, each with its areas, given by sector numbers.
 ghost use Rattle.std.specs.Prelude.{◌≡◌, ◌+◌, ◌<◌, ◌*◌, ◌≤◌, Some, ◌==◌};
 ghost use Rattle.maps.specs.Words.{purpose_in_words};
-ghost use Rattle.maps.specs.Places.{apart, bands_of, homes_of, inside};
+ghost use Rattle.maps.specs.Places.{apart, bands_of, first_home, homes_of, inside};
 
 use std::fmt;
 
@@ -128,6 +128,15 @@ impl Band {
             first: self.spares,
             size: AREA_SECTORS,
         }
+    }
+
+    // The prime area, or one with no sectors for an overflow band: so a loop over bands needs no branch for that.
+    // By reference, so that no band is copied.
+    pub(crate) fn prime_area(&self) -> Extent
+        ensures first { result.first ≡ first_home self.now }
+        ensures size { result.size ≡ homes_of self.now }
+    {
+        self.primes.unwrap_or(Extent { first: 0, size: 0 })
     }
 
     pub(crate) fn home_count(self) -> u64

@@ -22,10 +22,9 @@ impl Maps {
         ensures homes { HomesPlaced self.now.layout }
     {
         let mut rest = block;
-        for band in self.bands() {
-            let Some(primes) = band.primes else {
-                continue;
-            };
+        // The block is found in a band that is in use. To go over all eight costs less: the compiler unrolls the loop.
+        for band in &self.layout.bands {
+            let primes = band.prime_area();
             if rest < primes.size {
                 return primes.sector_at(rest);
             }
