@@ -96,6 +96,15 @@ fn marks(rt: HostRuntime) -> Result<(), Fail> {
     }
 }
 
+// Written out, so that a medium that named another layer would be seen.
+fn medium_fault(refusal: Refusal, place: u32) -> Fault {
+    Fault {
+        refusal,
+        layer: Layer::Medium,
+        place,
+    }
+}
+
 fn burn_of(
     heap: Global,
     plate: &mut Plate,
@@ -122,18 +131,18 @@ fn images(rt: HostRuntime) -> Result<(), Fail> {
     let Ok(mut plate) = Plate::open(vec![in heap; 0u8; CELL_BYTES]?, Vec::new(heap), 1) else {
         return Err(Fail::new("a blank plate was refused"));
     };
-    let wrong_length = Layer::Medium.refuses(Refusal::WrongLength, 0);
+    let wrong_length = medium_fault(Refusal::WrongLength, 0);
     assert_eq!(rt; burn_of(heap, &mut plate, 1, 523)?, Err(wrong_length));
     assert_eq!(rt; burn_of(heap, &mut plate, 0, 525)?, Err(wrong_length));
     assert_eq!(rt;
         burn_of(heap, &mut plate, 1, 524)?,
-        Err(Layer::Medium.refuses(Refusal::NoSuchSector, 1))
+        Err(medium_fault(Refusal::NoSuchSector, 1))
     );
     assert_eq!(rt; read_of(heap, &plate, 0, 524)?, Ok(Reading::Blank));
     assert_eq!(rt; burn_of(heap, &mut plate, 0, 524)?, Ok(Verdict::Sound));
     assert_eq!(rt;
         burn_of(heap, &mut plate, 0, 524)?,
-        Err(Layer::Medium.refuses(Refusal::AlreadyBurnt, 0))
+        Err(medium_fault(Refusal::AlreadyBurnt, 0))
     );
     assert_eq!(rt; read_of(heap, &plate, 0, 523)?, Err(wrong_length));
     assert_eq!(rt; read_of(heap, &plate, 0, 525)?, Err(wrong_length));

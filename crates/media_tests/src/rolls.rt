@@ -91,6 +91,15 @@ fn first_byte(roll: &Roll, sector: u32) -> Result<(Reading, u8), Fault> {
     Ok((reading, image[0]))
 }
 
+// Written out, so that a medium that named another layer would be seen.
+fn already_burnt(sector: u32) -> Fault {
+    Fault {
+        refusal: Refusal::AlreadyBurnt,
+        layer: Layer::Medium,
+        place: sector,
+    }
+}
+
 #[test]
 fn last_free_slot(rt: HostRuntime) -> Result<(), Fail> {
     let heap = rt.alloc();
@@ -100,20 +109,13 @@ fn last_free_slot(rt: HostRuntime) -> Result<(), Fail> {
     assert_eq!(rt; first_byte(&roll, 0), Ok((Reading::Sound, 7)));
     assert_eq!(rt; first_byte(&roll, 1), Ok((Reading::Spoiled, 0)));
     assert_eq!(rt; first_byte(&roll, 2), Ok((Reading::Blank, 0)));
-    assert_eq!(rt;
-        burn_of(&mut roll, 0),
-        Err(Layer::Medium.refuses(Refusal::AlreadyBurnt, 0))
-    );
+    assert_eq!(rt; burn_of(&mut roll, 0), Err(already_burnt(0)));
     assert_eq!(rt;
         burn_of(&mut roll, 2),
         Ok(Verdict::Sound),
         "the last free slot"
     );
     assert_eq!(rt; first_byte(&roll, 2), Ok((Reading::Sound, 9)));
-    assert_eq!(rt;
-        burn_of(&mut roll, 2),
-        Err(Layer::Medium.refuses(Refusal::AlreadyBurnt, 2)),
-        "a full roll"
-    );
+    assert_eq!(rt; burn_of(&mut roll, 2), Err(already_burnt(2)), "a full roll");
     Ok(())
 }

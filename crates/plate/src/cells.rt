@@ -10,15 +10,22 @@ pub(crate) const BLANK: u8 = 0;
 
 pub(crate) const BURNT: u8 = 1;
 
-// The mark of a sector's cell, and the image behind it.
-#[tactic(auto, using(std::proofs::lemmas::List::take_rest))]
-pub(crate) fn cell_of(memory: &[u8], sector: u32) -> (u8, &Image)
+// The mark of a sector's cell. Most callers want it alone, for every sector.
+pub(crate) fn mark_of(memory: &[u8], sector: u32) -> u8
     requires { 525 * sector + 525 ≤ length memory.now }
-    ensures mark { result.0 ≡ mark_at memory.now sector }
-    ensures image { result.1.now ≡ image_at memory.now sector }
+    ensures { result ≡ mark_at memory.now sector }
+{
+    memory[CELL_BYTES * sector as usize]
+}
+
+// The image behind the mark.
+#[tactic(auto, using(std::proofs::lemmas::List::take_rest))]
+pub(crate) fn image_of(memory: &[u8], sector: u32) -> &Image
+    requires { 525 * sector + 525 ≤ length memory.now }
+    ensures { result.now ≡ image_at memory.now sector }
 {
     let at = CELL_BYTES * sector as usize;
-    (memory[at], memory[at + 1..].first_chunk().unwrap())
+    memory[at + 1..].first_chunk().unwrap()
 }
 
 // Whether each mark says blank or burnt.
@@ -26,16 +33,16 @@ pub(crate) fn are_marked(memory: &[u8], count: u32) -> bool
     requires { 525 * count ≤ length memory.now }
     ensures { Decides result (Marked memory.now count) }
 {
-    (0..count).all(|sector| cell_of(memory, sector).0 <= BURNT)
+    (0..count).all(|sector| mark_of(memory, sector) <= BURNT)
 }
 
-// Writes the image into the sector's cell, and marks it as burnt. The image is a slice, as the interface hands it over.
+// Writes the image into the sector's cell, and only then marks it as burnt. The image is a slice, as the interface hands it over.
 pub(crate) fn fill_cell(memory: &mut [u8], sector: u32, image: &[u8])
     requires { (525 * sector + 525 ≤ length memory.old) × (length image.now ≡ 524) }
     ensures { memory.new ≡ with_image memory.old sector image.now }
 {
     let at = CELL_BYTES * sector as usize;
     let cell = &mut memory[at..at + CELL_BYTES];
-    cell[0] = BURNT;
     cell[1..].copy_from_slice(image);
+    cell[0] = BURNT;
 }

@@ -4,7 +4,7 @@ ghost use Rattle.medium.specs.Calls.{burning, sectors_after};
 ghost use Rattle.plate.specs.Access.{BurntInCell, sectors_of};
 ghost use Rattle.plate.specs.Sectored.{plate_lawful};
 
-use crate::cells::{BLANK, cell_of, fill_cell};
+use crate::cells::{BLANK, fill_cell, image_of, mark_of};
 use crate::flaws::any_covers;
 use crate::plates::Plate;
 use medium::{Fault, Layer, Medium, Reading, Refusal, Verdict, reach};
@@ -20,14 +20,13 @@ impl Medium for Plate {
 
     fn read(&self, sector: u32, image: &mut [u8]) -> Result<Reading, Fault> {
         reach(self.count, sector, image.len())?;
-        let (mark, stored) = cell_of(&self.memory, sector);
-        if mark == BLANK {
+        if mark_of(&self.memory, sector) == BLANK {
             return Ok(Reading::Blank);
         }
         if any_covers(&self.flaws, sector) {
             return Ok(Reading::Spoiled);
         }
-        image.copy_from_slice(stored);
+        image.copy_from_slice(image_of(&self.memory, sector));
         Ok(Reading::Sound)
     }
 
@@ -39,8 +38,7 @@ impl Medium for Plate {
         ensures cell { BurntInCell self.old sector image.now self.new }
     {
         reach(self.count, sector, image.len())?;
-        let (mark, _) = cell_of(&self.memory, sector);
-        if mark != BLANK {
+        if mark_of(&self.memory, sector) != BLANK {
             return Err(Layer::Medium.refuses(Refusal::AlreadyBurnt, sector));
         }
         fill_cell(&mut self.memory, sector, image);

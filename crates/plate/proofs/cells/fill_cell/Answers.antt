@@ -4,8 +4,8 @@ use Rattle.std.proofs.lemmas.List.{drop-drop, drop_all, append-nil, length-drop,
 use borrow.Rule.Slice.PartMut.{put_mid}
 use Rattle.plate.proofs.cells.fill_cell.Goals as goal
 
--- a cell once its mark and then all behind that is written
-filled : (cell image : List ℕ) → 0 < length cell → put_mid 1 (length (set cell 0 1) - 1) (set cell 0 1) image ≡ 1 ∷ image
+-- a cell once all behind its mark is written and then the mark
+filled : (cell image : List ℕ) → 0 < length cell → set (put_mid 1 (length cell - 1) cell image) 0 1 ≡ 1 ∷ image
 filled [] image h = absurd (omega arith)
 filled (mark ∷ rest) image h = rw (drop_all (length (mark ∷ rest) - 1) rest (omega arith), append-nil)
 

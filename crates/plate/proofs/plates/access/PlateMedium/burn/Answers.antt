@@ -3,8 +3,8 @@ use Rattle.plate.proofs.Accessed.{burn_blank, burn_burnt, still_openable, writte
 use Rattle.plate.specs.Sectored.{length_plate}
 use Rattle.plate.proofs.plates.access.PlateMedium.burn.Goals as goal
 
-pub returns-then-mark-ne-BLANK : goal.returns-then-mark-ne-BLANK
-returns-then-mark-ne-BLANK c = let h = burn_burnt c.args.self.now c.args.sector c.args.image.now c.in_ok-reach.ensures _ refl in search (rules, h)
+pub returns-then-mark_of-ne-BLANK : goal.returns-then-mark_of-ne-BLANK
+returns-then-mark_of-ne-BLANK c = let h = burn_burnt c.args.self.now c.args.sector c.args.image.now c.in_ok-reach.ensures _ refl in search (rules, h)
 
 pub invariant_of-self : goal.invariant_of-self
 invariant_of-self c =
