@@ -1,10 +1,28 @@
 // The copies of a layout, burnt and found again.
-ghost use Rattle.std.specs.Prelude.{◌≡◌, Ok};
+ghost use Rattle.std.specs.Prelude.{◌≡◌, ◌<◌, true, not, ◌||◌, length, Ok};
+ghost use Rattle.format.specs.Blocks.{blank_at};
 ghost use Rattle.format.specs.Sectors.{AllBlank, AllInside, Apart, copy_burns, some_free, sound_copy};
+ghost use Rattle.medium.specs.Calls.{sectors_after};
 ghost use Rattle.medium.specs.Runs.{after_burns};
+ghost use Rattle.medium.specs.Sectors.{sector_at};
 
 use crate::sectors::{burn_blank, read_sound};
 use medium::{Fault, Image, Medium};
+
+// Burns one copy; whether it, or one before it, proves sound.
+fn burn_copy<M: Medium>(
+    medium: &mut M,
+    sector: u32,
+    image: &Image,
+    any_sound: bool,
+) -> Result<bool, Fault>
+    requires inside { sector < length (M.Medium.sectors medium.old) }
+    requires blank { blank_at (M.Medium.sectors medium.old) sector ≡ true }
+    ensures answer { result ≡ Ok (any_sound || not (sector_at (M.Medium.sectors medium.old) sector).weak) }
+    ensures after { M.Medium.sectors medium.new ≡ sectors_after (M.Medium.sectors medium.old) sector image.now }
+{
+    Ok(any_sound | burn_blank(medium, sector, image)?)
+}
 
 // Burns the image into all the sectors, in their order; whether one of them proves sound.
 pub fn burn_copies<M: Medium>(medium: &mut M, sectors: &[u32], image: &Image) -> Result<bool, Fault>
@@ -15,7 +33,7 @@ pub fn burn_copies<M: Medium>(medium: &mut M, sectors: &[u32], image: &Image) ->
 {
     let mut any_sound = false;
     for &sector in sectors {
-        any_sound |= burn_blank(medium, sector, image)?;
+        any_sound = burn_copy(medium, sector, image, any_sound)?;
     }
     Ok(any_sound)
 }

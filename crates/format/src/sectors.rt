@@ -31,7 +31,7 @@ pub fn read_sound<M: Medium>(medium: &M, sector: u32) -> Result<Option<Image>, F
     Ok(None)
 }
 
-// Burns a blank sector; whether it proves sound. No `Verdict`: who calls asks only that, and `|=` gathers the answers.
+// Burns a blank sector; whether it proves sound. No `Verdict`: who calls asks only that, and `|` gathers the answers.
 pub fn burn_blank<M: Medium>(medium: &mut M, sector: u32, image: &Image) -> Result<bool, Fault>
     requires inside { sector < length (M.Medium.sectors medium.old) }
     requires blank { blank_at (M.Medium.sectors medium.old) sector ≡ true }

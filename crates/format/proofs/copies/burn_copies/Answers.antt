@@ -1,10 +1,10 @@
-use Rattle.std.proofs.Common.{◌≡◌, ◌<◌, not, get_or, sym, ap, ◌∙◌, subst}
-use Rattle.format.proofs.Copying.{copying_next, mem_at, same_here}
+use Rattle.std.proofs.Common.{◌≡◌, ◌<◌, not, ◌||◌, get_or, sym, refl, ap, ◌∙◌, subst}
+use Rattle.format.proofs.Copying.{Copying, copying_next, mem_at, same_here}
 use Rattle.medium.specs.Sectors.{is_blank, sector_at}
 use Rattle.format.proofs.copies.burn_copies.Goals as goal
 
-pub burn_blank-requires : goal.burn_blank-requires
-burn_blank-requires g c =
+pub burn_copy-requires : goal.burn_copy-requires
+burn_copy-requires g c =
     let i = c.loop-sector.sector-index in
     let sectors = c.args.sectors.now in
     let k = c.loop-sector.invariant in
@@ -20,6 +20,7 @@ loop-sector-preserved g c =
     let sectors = c.args.sectors.now in
     let h = c.requires.blank (get_or sectors i 0) (mem_at sectors i c.loop-sector-test.true) in
     let was = c.in_ok-any_sound.was in
-    let answer = c.burn_blank.ensures.answer in
-    let sound : c.in_ok-any_sound.field-0 ≡ not (sector_at (g.M.Medium.sectors c.loop-sector.medium) (get_or sectors i 0)).weak = cc in
-    copying_next _ _ _ _ _ _ c.loop-sector.invariant c.loop-sector-test.true _ _ c.requires.apart h.1 c.burn_blank.ensures.after sound
+    let answer = c.burn_copy.ensures.answer in
+    let found : c.in_ok-any_sound.any_sound ≡ (c.loop-sector.any_sound || not (sector_at (g.M.Medium.sectors c.loop-sector.medium) (get_or sectors i 0)).weak) = cc in
+    let next = copying_next _ _ _ _ _ _ c.loop-sector.invariant c.loop-sector-test.true _ _ c.requires.apart h.1 c.burn_copy.ensures.after refl in
+    subst (Copying _ _ _ _ _) (sym found) next
