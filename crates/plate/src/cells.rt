@@ -18,14 +18,13 @@ pub(crate) fn mark_of(memory: &[u8], sector: u32) -> u8
     memory[CELL_BYTES * sector as usize]
 }
 
-// The image behind the mark.
-#[tactic(auto, using(std::proofs::lemmas::List::take_rest))]
+// The image behind the mark. The slice ends with the cell, so that no length is tested when it runs.
 pub(crate) fn image_of(memory: &[u8], sector: u32) -> &Image
     requires { 525 * sector + 525 ≤ length memory.now }
     ensures { result.now ≡ image_at memory.now sector }
 {
     let at = CELL_BYTES * sector as usize;
-    memory[at + 1..].first_chunk().unwrap()
+    memory[at + 1..at + CELL_BYTES].first_chunk().unwrap()
 }
 
 // Whether each mark says blank or burnt.

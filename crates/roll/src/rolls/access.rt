@@ -7,7 +7,7 @@ ghost use Rattle.roll.specs.Wound.{roll_lawful};
 
 use crate::rolls::Roll;
 use crate::slots::{NUMBER_BYTES, WEAK, slot_at, write_slot};
-use medium::{Fault, Image, Layer, Medium, Reading, Refusal, Verdict, reach};
+use medium::{Fault, IMAGE_BYTES, Image, Layer, Medium, Reading, Refusal, Verdict, reach};
 
 impl Roll {
     // What the sector's verdict says.
@@ -18,14 +18,13 @@ impl Roll {
         self.memory[sector as usize] == WEAK
     }
 
-    // The image in a slot.
-    #[tactic(auto, using(std::proofs::lemmas::List::take_rest))]
+    // The image in a slot. The slice ends with the slot, so that no length is tested when it runs.
     fn slot_image(&self, slot: u32) -> &Image
         requires { slot < self.now.count }
         ensures { result.now ≡ slot_image self.now.memory.items self.now.count slot }
     {
         let at = slot_at(self.count, slot) + NUMBER_BYTES;
-        self.memory[at..].first_chunk().unwrap()
+        self.memory[at..at + IMAGE_BYTES].first_chunk().unwrap()
     }
 }
 
