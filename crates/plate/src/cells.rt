@@ -10,7 +10,7 @@ pub(crate) const BLANK: u8 = 0;
 
 pub(crate) const BURNT: u8 = 1;
 
-// The mark of a sector's cell. Most callers want it alone, for every sector.
+// The mark of a sector's cell, alone: opening asks for it of every sector.
 pub(crate) fn mark_of(memory: &[u8], sector: u32) -> u8
     requires { 525 * sector + 525 ≤ length memory.now }
     ensures { result ≡ mark_at memory.now sector }
